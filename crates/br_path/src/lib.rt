@@ -6,9 +6,11 @@
 #![tactic(auto)]
 
 mod area;
+mod parse;
 mod path;
 mod values;
 
 pub use area::Area;
+pub use parse::PathFault;
 pub use path::Path;
 pub use values::{Bytes, Memory, Names, Numbers};
