@@ -1,5 +1,5 @@
 -- Paths, as lists of names, each the list of its bytes.
-use Rattle.std.specs.Prelude.{◌≡◌, ◌≢◌, ℕ, ◌+◌, ◌≤◌, ◌<◌, Bool, ◌&&◌, ◌==◌, not, nat_le, nat_lt, IsTrue, List, [], ◌∷◌, ◌++◌, length, take, flat_map, All, Option, Some, None, codes, if◌then◌else◌, position}
+use Rattle.std.specs.Prelude.{◌≡◌, ◌≢◌, ℕ, ◌+◌, ◌≤◌, ◌<◌, Bool, ◌&&◌, ◌==◌, not, nat_le, nat_lt, IsTrue, List, [], ◌∷◌, ◌++◌, length, take, flat_map, map, All, Option, Some, None, codes, if◌then◌else◌, position}
 use Rattle.std.specs.List.{join_with_byte, slice_split}
 use Rattle.std.specs.Ordering.{nat_cmp}
 use Rattle.std.specs.declared.cmp.Ordering.{Ordering}
@@ -38,6 +38,15 @@ pub record IsPath (names : Names) : Type 0 where
 abbrev pub parent_of : Names → Option Names
 parent_of [] = None
 parent_of (name ∷ names) = Some (take (length names) (name ∷ names))
+
+-- the folders that a path stands in, from the root down
+abbrev pub folders_of : Names → List Names
+folders_of [] = []
+folders_of (name ∷ names) = [] ∷ map (λ folder. name ∷ folder) (folders_of names)
+
+-- the text of the names with a slash before each, as a tree counts it
+abbrev pub rooted_text : Names → List ℕ
+rooted_text names = flat_map (λ name. 47 ∷ name) names
 
 -- by names in order, each by its bytes, and a path before those below it
 abbrev pub path_cmp : Names → Names → Ordering
