@@ -1,1 +1,5 @@
+pub mod Inputs
+pub mod Maps
+pub mod Neighbours
+pub mod PathOrder
 pub mod Paths

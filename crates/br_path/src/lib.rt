@@ -6,11 +6,13 @@
 #![tactic(auto)]
 
 mod area;
+mod files;
 mod parse;
 mod path;
 mod values;
 
 pub use area::Area;
+pub use files::{AddFault, Files};
 pub use parse::PathFault;
 pub use path::Path;
 pub use values::{Bytes, Memory, Names, Numbers};
