@@ -1,9 +1,10 @@
 -- The text of an image.
-use Rattle.std.specs.Prelude.{ℕ, ◌+◌, ◌*◌, ◌/◌, ◌%◌, List, [], ◌∷◌, ◌++◌, length, flat_map, codes}
+use Rattle.std.specs.Prelude.{ℕ, ◌+◌, ◌*◌, ◌/◌, List, [], ◌∷◌, ◌++◌, length, flat_map, codes}
 use Rattle.std.specs.List.{range_with_len}
 use Rattle.std.specs.Fork.{slice_chunk}
 use Rattle.std.specs.Fmt.{decimal}
 use Rattle.hex.specs.Hex.{encode_lower}
+use Rattle.br_path.specs.Mode.{octal}
 use Rattle.br_path.specs.Path.{Names, rooted_text}
 use Rattle.image_text.specs.declared.root.RootEntry.{RootEntry}
 use Rattle.image_text.specs.declared.root.RootEntry.TheVariants.{Dir, Link, First, Same}
@@ -16,10 +17,6 @@ line text = text ++ 10 ∷ []
 abbrev pub rooted : Names → List ℕ
 rooted [] = codes "/"
 rooted (name ∷ names) = rooted_text (name ∷ names)
-
--- a mode as four octal digits
-abbrev pub octal : ℕ → List ℕ
-octal mode = (48 + mode / 512 % 8) ∷ (48 + mode / 64 % 8) ∷ (48 + mode / 8 % 8) ∷ (48 + mode % 8) ∷ []
 
 -- a line of a file's bytes: the 32 of this number, or what is left, in lower-case hex digits
 abbrev pub content_line : List ℕ → ℕ → List ℕ

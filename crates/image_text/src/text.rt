@@ -2,7 +2,8 @@
 ghost use Rattle.std.specs.Prelude.{◌≡◌, ◌++◌, ◌≤◌, IfOk, OnOk, length, codes};
 ghost use Rattle.std.specs.Fmt.{decimal};
 ghost use Rattle.hex.specs.Hex.{encode_lower};
-ghost use Rattle.image_text.specs.Image.{line, rooted, octal, content_lines, entry_lines, image_text};
+ghost use Rattle.br_path.specs.Mode.{octal};
+ghost use Rattle.image_text.specs.Image.{line, rooted, content_lines, entry_lines, image_text};
 
 use crate::root::{Root, RootEntry};
 use br_path::{Bytes, Memory, Path};
