@@ -1,0 +1,3 @@
+pub mod Cause
+pub mod Feed
+pub mod Sink

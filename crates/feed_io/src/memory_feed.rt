@@ -1,0 +1,1 @@
+//! A feed over files in memory.
