@@ -6,9 +6,12 @@
 #![tactic(auto)]
 
 mod feed;
+mod listed;
 mod memory_feed;
 mod memory_sink;
 mod sink;
 
 pub use feed::{Feed, FeedError, FeedFile};
+pub use memory_feed::{FeedFiles, MemoryFeed};
+pub use memory_sink::MemorySink;
 pub use sink::{Sink, SinkError};
