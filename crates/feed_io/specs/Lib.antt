@@ -1,0 +1,6 @@
+pub mod Cause
+pub mod Feed
+pub mod Listed
+pub mod MemoryFeed
+pub mod MemorySink
+pub mod Sink

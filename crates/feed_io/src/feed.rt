@@ -1,0 +1,42 @@
+//! Feeds: where the input comes from.
+ghost use Rattle.std.specs.Prelude.{ℕ, ◌+◌, ◌≤◌, Option, List, IsErrOf};
+ghost use Rattle.feed_io.specs.declared.feed.FeedFile.{FeedFile};
+
+use br_path::Bytes;
+
+/// A file as a feed gives it. Its path is a text of any bytes.
+#[derive(Debug, Drop)]
+pub struct FeedFile {
+    pub path: Bytes,
+    pub bytes: Bytes,
+}
+
+/// Why a feed gives nothing.
+#[derive(Clone, Copy, Debug, PartialEq, Eq)]
+pub enum FeedError {
+    /// The feed failed, and counts one fault more.
+    Failed,
+    /// Want of memory.
+    Memory,
+}
+
+/// A source of files.
+pub trait Feed {
+    ghost use Rattle.feed_io.specs.Cause.{HasCause};
+    ghost use Rattle.feed_io.specs.Feed.{Takes};
+
+    /// The files left, where the feed tells them.
+    ghost left: { Self → Option (List FeedFile) };
+
+    /// How often it has failed. The count stands still at 2^64 - 1.
+    ghost faults: { Self → ℕ };
+
+    /// How often it was asked.
+    ghost calls: { Self → ℕ };
+
+    /// Takes the first file left, or says that none is left.
+    fn next(&mut self) -> Result<Option<FeedFile>, FeedError>
+        ensures takes { Takes (left self.old) result (left self.new) }
+        ensures cause { HasCause (faults self.old) (faults self.new) (IsErrOf result FeedError.Failed) }
+        ensures call { calls self.new ≤ calls self.old + 1 };
+}

@@ -1,0 +1,17 @@
+//! Where the input comes from and where the output goes.
+//!
+//! A feed gives the files of the input one by one, and a sink takes the bytes of an output piece by piece. Each
+//! has a count of its faults, so that a caller's contract can say that a fault it answers was the feed's or the
+//! sink's. Those in memory tell what they hold; those over real files and streams tell nothing.
+#![tactic(auto)]
+
+mod feed;
+mod listed;
+mod memory_feed;
+mod memory_sink;
+mod sink;
+
+pub use feed::{Feed, FeedError, FeedFile};
+pub use memory_feed::{FeedFiles, MemoryFeed};
+pub use memory_sink::MemorySink;
+pub use sink::{Sink, SinkError};
