@@ -1,8 +1,8 @@
 -- The order of labels.
-use Rattle.std.proofs.Common.{ℕ, ◌≡◌, Bool, true, ◌&&◌, ◌==◌, sym, ap, ◌∙◌}
+use Rattle.std.proofs.Common.{◌≡◌, ◌&&◌, ◌==◌, sym, ap, ◌∙◌}
 use Rattle.std.specs.FinMap.{IsAntisymmetric}
 use Rattle.std.specs.Cmp.{IsTotalOrder, both_tied, unsigned_ties}
-use Rattle.std.specs.Ordering.{nat_cmp, eq_by_cmp, is_eq}
+use Rattle.std.specs.Ordering.{eq_by_cmp, is_eq}
 use Rattle.std.proofs.lemmas.Bool.{and_parts, eqb-true}
 use Rattle.std.proofs.lemmas.Cmp.{nat_cmp_total, then_total, on_total}
 use Rattle.tree_map.specs.declared.entry.Label.{Label}

@@ -8,7 +8,7 @@ use Rattle.tree_map.specs.declared.entry.Node.{Node}
 use Rattle.tree_map.specs.declared.entry.Node.TheVariants.{Dir, Link, File}
 use Rattle.tree_map.specs.declared.pen.Pen.{Pen}
 use Rattle.tree_map.specs.declared.change.ChangeFault.{ChangeFault}
-use Rattle.tree_map.specs.declared.change.ChangeFault.TheVariants.{Absent, Present, NotDir, IsDir, IsLink, NotEmpty, ReadOnly, Outside, Loop, Crosses, NoSpace, TooLong, Memory}
+use Rattle.tree_map.specs.declared.change.ChangeFault.TheVariants.{Absent, Present, NotDir, NoSpace, TooLong, Memory}
 use Rattle.tree_map.specs.Tree.{Tree, IsTree, node_at}
 use Rattle.tree_map.specs.Pen.{is_within_limits}
 

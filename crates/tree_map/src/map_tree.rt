@@ -1,17 +1,17 @@
 //! Trees that are kept as two plain maps.
-ghost use Rattle.std.specs.Prelude.{◌≡◌, ◌≤◌, None, IfOk, OnOk, OnErr};
+ghost use Rattle.std.specs.Prelude.{◌≡◌, OnOk, OnErr};
 ghost use Rattle.std.specs.FinMap as fin;
 ghost use Rattle.std.specs.Option.{option_copied};
-ghost use Rattle.tree_map.specs.Tree.{Tree, node_at};
 ghost use Rattle.br_path.specs.Path.{parent_of};
+ghost use Rattle.tree_map.specs.Tree.{node_at};
 ghost use Rattle.tree_map.specs.Change.{new_name_fault, no_folder_fault, parent_fault, IsChecked};
 ghost use Rattle.tree_map.specs.MapTree.{shown, with_name, without_name, with_label};
-ghost use Rattle.tree_map.specs.declared.entry.Node.TheVariants.{File};
 
 use crate::change::ChangeFault;
 use crate::entry::{Contents, Entry, Label, Node};
 use crate::ops::TreeOps;
-use crate::pen::{self, Pen};
+use crate::pen::Pen;
+use crate::text;
 use br_path::{Bytes, Memory, Path};
 use std::alloc::Global;
 use std::collections::BTreeMap;
@@ -69,13 +69,13 @@ impl MapTree {
         if self.node(at).is_some() {
             return Err(ChangeFault::Present);
         }
-        if pen::text_length(at) > 1024 {
+        if text::rooted_length(at) > text::LENGTH_LIMIT {
             return Err(ChangeFault::TooLong);
         }
         Ok(())
     }
 
-    /// Puts a node at a path where nothing stands.
+    /// Puts a node at the path. After a refusal nothing is changed.
     fn add_name(&mut self, at: &Path, node: Node) -> Result<(), Memory>
         ensures ok { OnOk result (shown self.new ≡ with_name (shown self.old) at.now node) }
         ensures err { OnErr result (shown self.new ≡ shown self.old) }
@@ -84,7 +84,7 @@ impl MapTree {
         Ok(())
     }
 
-    /// Lets a label stand for these contents.
+    /// Lets a label stand for these contents. After a refusal nothing is changed.
     fn add_label(&mut self, label: Label, contents: Contents) -> Result<(), Memory>
         ensures ok { OnOk result (shown self.new ≡ with_label (shown self.old) label contents) }
         ensures err { OnErr result (shown self.new ≡ shown self.old) }
@@ -100,10 +100,11 @@ impl MapTree {
         self.names.remove(at);
     }
 
-    /// Puts a file with a new label at a path where nothing stands.
+    /// Puts a file at a path where nothing stands, and lets its label stand for these contents. After a refusal
+    /// nothing is changed.
     fn add_file(&mut self, at: &Path, label: Label, contents: Contents) -> Result<(), Memory>
         requires { node_at (shown self.old) at.now ≡ None }
-        ensures ok { OnOk result (shown self.new ≡ with_label (with_name (shown self.old) at.now (File label)) label contents) }
+        ensures ok { OnOk result (shown self.new ≡ with_label (with_name (shown self.old) at.now (Node.File label)) label contents) }
         ensures err { OnErr result (shown self.new ≡ shown self.old) }
     {
         self.add_name(at, Node::File(label))?;
@@ -181,6 +182,190 @@ impl TreeOps for MapTree {
         let after = pen.with_name(at).ok_or(ChangeFault::NoSpace)?;
         self.add_name(at, Node::Dir(mode))?;
         *pen = after;
+        Ok(())
+    }
+}
+
+#[cfg(test)]
+mod tests {
+    use super::*;
+    use std::process::Abort;
+    use std::test::Fail;
+
+    /// A tree with a folder `a` and a file `a/f`, and the pen that made them.
+    fn small(alloc: Global) -> Result<(MapTree, Pen), Fail> {
+        let mut tree = MapTree::empty(alloc)?;
+        let mut pen = Pen::new(7);
+        let folder = Path::parse(alloc, b"a")?;
+        tree.mkdir(alloc, &folder, 0o700, &mut pen)?;
+        let file = Path::parse(alloc, b"a/f")?;
+        tree.make_file(alloc, &file, 0o640, b"bytes", &mut pen)?;
+        Ok((tree, pen))
+    }
+
+    /// Asserts that a tree and a pen are those of `small`.
+    fn assert_small(rt: &impl Abort, alloc: Global, tree: &MapTree, pen: Pen) -> Result<(), Fail> {
+        let label = Label { task: 7, number: 0 };
+        let file = Path::parse(alloc, b"a/f")?;
+        let folder = Path::parse(alloc, b"a")?;
+        let root = Path::root(alloc);
+        assert_eq!(rt; tree.lookup(&root), Some(Entry::Dir(0o755)));
+        assert_eq!(rt; tree.lookup(&folder), Some(Entry::Dir(0o700)));
+        assert_eq!(rt; tree.lookup(&file), Some(Entry::File(label)));
+        assert_eq!(rt; tree.mode(&file), Some(0o640));
+        assert_eq!(rt; tree.bytes(&file), Some(b"bytes".as_slice()));
+        assert_eq!(rt; tree.bytes(&folder), None);
+        let want = Pen {
+            next: 1,
+            bytes: 5,
+            names: 2,
+            path_bytes: 6,
+            ..Pen::new(7)
+        };
+        assert_eq!(rt; pen, want);
+        Ok(())
+    }
+
+    #[test]
+    fn makes_a_folder_and_a_file(rt: HostRuntime) -> Result<(), Fail> {
+        let alloc = rt.alloc();
+        let (tree, pen) = small(alloc)?;
+        assert_small(&rt, alloc, &tree, pen)
+    }
+
+    #[test]
+    fn refuses_in_order_and_changes_nothing(rt: HostRuntime) -> Result<(), Fail> {
+        let alloc = rt.alloc();
+        let (mut tree, mut pen) = small(alloc)?;
+        let rows = [
+            (b"b/c".as_slice(), ChangeFault::Absent),
+            (b"a/f/g".as_slice(), ChangeFault::NotDir),
+            (b"a/f/g/h".as_slice(), ChangeFault::Absent),
+            (b"a".as_slice(), ChangeFault::Present),
+            (b"a/f".as_slice(), ChangeFault::Present),
+        ];
+        for (text, want) in rows {
+            let at = Path::parse(alloc, text)?;
+            assert_eq!(rt; tree.mkdir(alloc, &at, 0o755, &mut pen), Err(want));
+            assert_eq!(rt;
+                tree.make_file(alloc, &at, 0o644, b"x", &mut pen),
+                Err(want)
+            );
+        }
+        let root = Path::root(alloc);
+        assert_eq!(rt;
+            tree.mkdir(alloc, &root, 0o755, &mut pen),
+            Err(ChangeFault::Present)
+        );
+        assert_small(&rt, alloc, &tree, pen)
+    }
+
+    #[test]
+    fn a_text_has_1024_bytes_at_most(rt: HostRuntime) -> Result<(), Fail> {
+        let alloc = rt.alloc();
+        let mut tree = MapTree::empty(alloc)?;
+        let mut pen = Pen::new(7);
+        let mut text = [b'x'; 1024];
+        text[255] = b'/';
+        text[511] = b'/';
+        text[767] = b'/';
+        for len in [255, 511, 767, 1023] {
+            let at = Path::parse(alloc, &text[..len])?;
+            tree.mkdir(alloc, &at, 0o755, &mut pen)?;
+        }
+        text[1022] = b'/';
+        let folder = Path::parse(alloc, &text[..1022])?;
+        tree.mkdir(alloc, &folder, 0o755, &mut pen)?;
+        let before = pen;
+        let at = Path::parse(alloc, &text)?;
+        assert_eq!(rt;
+            tree.mkdir(alloc, &at, 0o755, &mut pen),
+            Err(ChangeFault::TooLong)
+        );
+        assert_eq!(rt; tree.lookup(&at), None);
+        assert_eq!(rt; pen, before);
+        Ok(())
+    }
+
+    #[test]
+    fn counts_up_to_the_limits(rt: HostRuntime) -> Result<(), Fail> {
+        let alloc = rt.alloc();
+        let new = Pen::new(7);
+        let rows = [
+            (
+                Pen {
+                    bytes: 4_194_303,
+                    ..new
+                },
+                true,
+            ),
+            (
+                Pen {
+                    bytes: 4_194_304,
+                    ..new
+                },
+                false,
+            ),
+            (
+                Pen {
+                    names: 16_383,
+                    ..new
+                },
+                true,
+            ),
+            (
+                Pen {
+                    names: 16_384,
+                    ..new
+                },
+                false,
+            ),
+            (
+                Pen {
+                    path_bytes: 1_048_574,
+                    ..new
+                },
+                true,
+            ),
+            (
+                Pen {
+                    path_bytes: 1_048_575,
+                    ..new
+                },
+                false,
+            ),
+            (
+                Pen {
+                    next: 4_294_967_294,
+                    ..new
+                },
+                true,
+            ),
+            (
+                Pen {
+                    next: 4_294_967_295,
+                    ..new
+                },
+                false,
+            ),
+        ];
+        let at = Path::parse(alloc, b"a")?;
+        for (before, fits) in rows {
+            let mut tree = MapTree::empty(alloc)?;
+            let mut pen = before;
+            let want = if fits {
+                Ok(())
+            } else {
+                Err(ChangeFault::NoSpace)
+            };
+            assert_eq!(rt;
+                tree.make_file(alloc, &at, 0o644, b"x", &mut pen),
+                want,
+                "{before:?}"
+            );
+            assert_eq!(rt; tree.lookup(&at).is_some(), fits, "{before:?}");
+            assert_eq!(rt; pen == before, !fits, "{before:?}");
+        }
         Ok(())
     }
 }

@@ -1,9 +1,9 @@
 //! What a task has used of its limits.
-ghost use Rattle.std.specs.Prelude.{◌≡◌, ◌≤◌, ◌+◌, length, sum_by};
-ghost use Rattle.br_path.specs.Path.{rooted_text};
+ghost use Rattle.std.specs.Prelude.{◌≡◌};
 
 use crate::entry::Label;
-use br_path::{Bytes, Path};
+use crate::text;
+use br_path::Path;
 
 /// What a task writes with: its number, and what it has drawn and written so far over its four trees.
 ///
@@ -64,7 +64,7 @@ impl Pen {
     {
         let pen = Pen {
             names: self.names.checked_add(1)?,
-            path_bytes: self.path_bytes.checked_add(text_length(at) as u32)?,
+            path_bytes: self.path_bytes.checked_add(text::rooted_length(at) as u32)?,
             ..*self
         };
         pen.if_within_limits()
@@ -92,20 +92,4 @@ impl Pen {
             && self.path_bytes <= Pen::PATH_BYTE_LIMIT;
         fits.then_some(self)
     }
-}
-
-/// The length of the path's text with a `/` before each name.
-pub(crate) fn text_length(at: &Path) -> usize
-    ensures length { result ≡ length (rooted_text at.now) }
-    ensures short { result ≤ 1025 }
-{
-    closed_length(at.names())
-}
-
-/// How long the names are, with one byte more for each.
-fn closed_length(names: &[Bytes]) -> usize
-    requires { sum_by (λ name. length name + 1) names.now ≤ 1025 }
-    ensures { result ≡ sum_by (λ name. length name + 1) names.now }
-{
-    names.iter().map(|name| name.as_slice().len() + 1).sum()
 }

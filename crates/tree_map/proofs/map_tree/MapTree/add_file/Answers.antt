@@ -1,5 +1,4 @@
 use Rattle.std.proofs.Common.{ap, ◌∙◌, ◌≡◌}
-use Rattle.std.specs.FinMap as fin
 use Rattle.br_path.proofs.Maps.{remove-insert}
 use Rattle.br_path.proofs.PathOrder.{path_total, path_same}
 use Rattle.tree_map.specs.Tree.{Tree}

@@ -1,8 +1,7 @@
-use Rattle.std.proofs.Common.{ℕ, ◌≡◌, ◌+◌, ◌≤◌, length, sym, ap, ◌∙◌, arith}
+use Rattle.std.proofs.Common.{◌+◌, length, sym, ap, ◌∙◌, arith}
 use Rattle.std.specs.List.{sum_by}
-use Rattle.br_path.specs.Path.{Names}
 use Rattle.tree_map.proofs.Lengths.{length-rooted_text, rooted_text-short}
-use Rattle.tree_map.proofs.pen.text_length.Goals as goal
+use Rattle.tree_map.proofs.text.rooted_length.Goals as goal
 
 pub closed_length-requires : goal.closed_length-requires
 closed_length-requires c =
