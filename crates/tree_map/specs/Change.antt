@@ -8,7 +8,7 @@ use Rattle.tree_map.specs.declared.entry.Node.{Node}
 use Rattle.tree_map.specs.declared.entry.Node.TheVariants.{Dir, Link, File}
 use Rattle.tree_map.specs.declared.pen.Pen.{Pen}
 use Rattle.tree_map.specs.declared.change.ChangeFault.{ChangeFault}
-use Rattle.tree_map.specs.declared.change.ChangeFault.TheVariants.{Absent, Present, NotDir, IsDir, IsLink, NotEmpty, ReadOnly, Outside, Loop, Crosses, NoSpace, TooLong, Memory}
+use Rattle.tree_map.specs.declared.change.ChangeFault.TheVariants.{Absent, Present, NotDir, NoSpace, TooLong, Memory}
 use Rattle.tree_map.specs.Tree.{Tree, IsTree, node_at}
 use Rattle.tree_map.specs.Pen.{is_within_limits}
 
@@ -51,6 +51,10 @@ next_label pen = record { task = pen.task; number = pen.next }
 abbrev pub named : Pen → Names → Pen
 named pen at = record pen { names = pen.names + 1; path_bytes = pen.path_bytes + length (rooted_text at) }
 
+-- the pen with one more label, and its bytes written
+abbrev pub labelled : Pen → List ℕ → Pen
+labelled pen bytes = record pen { next = pen.next + 1; bytes = pen.bytes + length bytes }
+
 -- the pen after a change, whatever the limits
 abbrev pub pen_after : Change → Pen → Pen
 pen_after (MakeFile at mode bytes) pen = record (named pen at) { next = pen.next + 1; bytes = pen.bytes + length bytes }
@@ -90,3 +94,9 @@ abbrev pub IsChange : Result State ChangeFault → State → Result (Unit {0}) C
 IsChange outcome old (Ok done) new = outcome ≡ Ok new
 IsChange outcome old (Err Memory) new = new ≡ old
 IsChange outcome old (Err fault) new = (outcome ≡ Err fault) × (new ≡ old)
+
+-- what a test answers: nothing, the first fault that there is, or want of memory whatever there is
+abbrev pub IsChecked : Option ChangeFault → Result (Unit {0}) ChangeFault → Type 0
+IsChecked fault (Ok done) = fault ≡ None
+IsChecked fault (Err Memory) = Unit {0}
+IsChecked fault (Err other) = fault ≡ Some other

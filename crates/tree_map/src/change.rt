@@ -1,4 +1,7 @@
 //! Why a change of a tree is refused.
+ghost use Rattle.std.specs.Prelude.{◌≡◌};
+
+use br_path::Memory;
 
 /// Why a change is refused. The tree and the pen are then as they were.
 #[derive(Clone, Copy, Debug, PartialEq, Eq)]
@@ -29,4 +32,14 @@ pub enum ChangeFault {
     TooLong,
     /// Want of memory.
     Memory,
+}
+
+impl From<Memory> for ChangeFault {
+    ghost use Rattle.tree_map.specs.declared.change.ChangeFault.TheVariants.{Memory as no_memory};
+
+    ghost from_gives = { λ _ fault. fault ≡ no_memory };
+
+    fn from(_memory: Memory) -> ChangeFault {
+        ChangeFault::Memory
+    }
 }

@@ -34,3 +34,19 @@ pub enum Entry {
     Link,
     File(Label),
 }
+
+impl Node {
+    ghost use Rattle.std.specs.Prelude.{◌≡◌};
+    ghost use Rattle.tree_map.specs.Tree.{kind_of};
+
+    /// The node's kind.
+    pub(crate) fn entry(&self) -> Entry
+        ensures { result ≡ kind_of self.now }
+    {
+        match self {
+            Node::Dir(mode) => Entry::Dir(*mode),
+            Node::Link(_) => Entry::Link,
+            Node::File(label) => Entry::File(*label),
+        }
+    }
+}

@@ -10,6 +10,7 @@ mod entry;
 mod map_tree;
 mod ops;
 mod pen;
+mod text;
 
 pub use change::ChangeFault;
 pub use entry::{Contents, Entry, Label, Node};

@@ -1,6 +1,10 @@
 //! What a task has used of its limits.
 ghost use Rattle.std.specs.Prelude.{◌≡◌};
 
+use crate::entry::Label;
+use crate::text;
+use br_path::Path;
+
 /// What a task writes with: its number, and what it has drawn and written so far over its four trees.
 ///
 /// Labels and bytes never fall; names and the bytes of their paths' texts are those that stand now, without the
@@ -19,7 +23,8 @@ pub struct Pen {
 }
 
 impl Pen {
-    ghost use Rattle.tree_map.specs.Pen.{new_pen};
+    ghost use Rattle.tree_map.specs.Pen.{new_pen, is_within_limits, within_limits};
+    ghost use Rattle.tree_map.specs.Change.{next_label, named, labelled};
 
     pub const LABEL_LIMIT: u32 = 4_294_967_295;
 
@@ -41,5 +46,50 @@ impl Pen {
             path_bytes: 0,
             copied: 0,
         }
+    }
+
+    /// The label that is drawn next.
+    pub(crate) fn next_label(&self) -> Label
+        ensures { result ≡ next_label self.now }
+    {
+        Label {
+            task: self.task,
+            number: self.next,
+        }
+    }
+
+    /// The pen with one more name, unless a count passes its limit.
+    pub(crate) fn with_name(&self, at: &Path) -> Option<Pen>
+        ensures { result ≡ within_limits (named self.now at.now) }
+    {
+        let pen = Pen {
+            names: self.names.checked_add(1)?,
+            path_bytes: self.path_bytes.checked_add(text::rooted_length(at) as u32)?,
+            ..*self
+        };
+        pen.if_within_limits()
+    }
+
+    /// The pen with one more label, which stands for these bytes, unless a count passes its limit.
+    pub(crate) fn with_label(&self, bytes: &[u8]) -> Option<Pen>
+        ensures { result ≡ within_limits (labelled self.now bytes.now) }
+    {
+        let pen = Pen {
+            next: self.next.checked_add(1)?,
+            bytes: self.bytes.checked_add(bytes.len() as u64)?,
+            ..*self
+        };
+        pen.if_within_limits()
+    }
+
+    /// The pen, unless a count of it is past its limit.
+    fn if_within_limits(self) -> Option<Pen>
+        ensures { result ≡ within_limits self }
+    {
+        let fits = self.next <= Pen::LABEL_LIMIT
+            && self.bytes <= Pen::BYTE_LIMIT
+            && self.names <= Pen::NAME_LIMIT
+            && self.path_bytes <= Pen::PATH_BYTE_LIMIT;
+        fits.then_some(self)
     }
 }
