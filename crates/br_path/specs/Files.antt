@@ -41,3 +41,7 @@ IsHead files at = (other : Names) × IsFile files other × StartsWith other at
 -- this path starts with a file's
 abbrev pub HasHead : FileMap → Names → Type 0
 HasHead files at = (other : Names) × IsFile files other × StartsWith at other
+
+-- the name is the last of these
+abbrev pub IsLast : Names → List ℕ → Type 0
+IsLast names name = (front : Names) × (names ≡ front ++ name ∷ [])

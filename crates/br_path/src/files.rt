@@ -1,16 +1,18 @@
 //! The files of the input, by their paths.
-ghost use Rattle.std.specs.Prelude.{◌≡◌, ◌↔◌, IsTrue, IsErrOf, IfOk, OnOk, OnErr, Contains};
+ghost use Rattle.std.specs.Prelude.{◌≡◌, ◌↔◌, IsTrue, IsErrOf, IfOk, OnOk, OnErr, Contains, All, ◌⊎◌};
+ghost use Rattle.std.specs.BTreeMap.Range.{IsLeBy};
 ghost use Rattle.std.specs.FinMap as fin;
 ghost use Rattle.std.specs.Option.{option_copied};
 ghost use Rattle.std.specs.List.Sorted.{IsStrictlySortedBy};
 ghost use Rattle.std.specs.Ordering.{nat_cmp};
 ghost use Rattle.std.specs.Cmp.Lexicographic.{slice_cmp};
-ghost use Rattle.br_path.specs.Files.{Clashes, IsFolder, IsChild, IsHead, HasHead};
+ghost use Rattle.br_path.specs.Files.{Clashes, IsFolder, IsChild, IsHead, HasHead, IsLast};
 
 use crate::path::Path;
 use crate::values::{Bytes, Memory, Names};
 use std::alloc::Global;
 use std::collections::BTreeMap;
+use std::ops::Bound;
 use std::marker::Model;
 
 /// The input: a finite map from paths to bytes, in which no path is the root or stands above another.
@@ -125,6 +127,40 @@ impl Files {
         ensures order { IfOk result (λ names. IsStrictlySortedBy (slice_cmp nat_cmp) names) }
         ensures names { IfOk result (λ names. (name : _) → Contains names name ↔ IsChild self.now at.now name) }
     {
-        Err(Memory)
+        let depth = at.names().len();
+        let mut names = Names {
+            items: Vec::new(alloc),
+        };
+        for (path, _) in self.files.range((Bound::Excluded(at), Bound::Unbounded)) {
+            if !path.starts_with(at) {
+                break;
+            }
+            put_name(&mut names, &path.names()[depth])?;
+        }
+        Ok(names)
+    }
+}
+
+/// Puts a name behind names in order, unless it is the last of them.
+fn put_name(names: &mut Names, name: &Bytes) -> Result<(), Memory>
+    requires order { IsStrictlySortedBy (slice_cmp nat_cmp) names.old }
+    requires upto { All (λ other. IsLeBy (slice_cmp nat_cmp) other name.now) names.old }
+    ensures order { OnOk result (IsStrictlySortedBy (slice_cmp nat_cmp) names.new) }
+    ensures names { OnOk result ((other : _) → Contains names.new other ↔ (Contains names.old other ⊎ (other ≡ name.now))) }
+{
+    if is_last(names.items.as_slice(), name) {
+        return Ok(());
+    }
+    names.items.push(name.copy()?)?;
+    Ok(())
+}
+
+/// Whether a name is the last of some.
+fn is_last(names: &[Bytes], name: &Bytes) -> bool
+    ensures { IsTrue result ↔ IsLast names.now name.now }
+{
+    match names.split_last() {
+        None => false,
+        Some((last, _)) => last == name,
     }
 }
