@@ -1,6 +1,6 @@
 -- Paths, as lists of names, each the list of its bytes.
 use Rattle.std.specs.Prelude.{◌≡◌, ◌≢◌, ℕ, ◌+◌, ◌≤◌, ◌<◌, Bool, ◌&&◌, ◌==◌, not, nat_le, nat_lt, IsTrue, List, [], ◌∷◌, ◌++◌, length, take, flat_map, map, All, Option, Some, None, codes, if◌then◌else◌, position}
-use Rattle.std.specs.List.{join_with_byte, slice_split}
+use Rattle.std.specs.List.{join_with_byte, slice_split, range_with_len}
 use Rattle.std.specs.Ordering.{nat_cmp}
 use Rattle.std.specs.declared.cmp.Ordering.{Ordering}
 use Rattle.std.specs.Cmp.Lexicographic.{slice_cmp}
@@ -39,10 +39,9 @@ abbrev pub parent_of : Names → Option Names
 parent_of [] = None
 parent_of (name ∷ names) = Some (take (length names) (name ∷ names))
 
--- the folders that a path stands in, from the root down
+-- the folders that a path stands in, from the root down: its first names, none at first and all but the last at last
 abbrev pub folders_of : Names → List Names
-folders_of [] = []
-folders_of (name ∷ names) = [] ∷ map (λ folder. name ∷ folder) (folders_of names)
+folders_of names = map (λ depth. take depth names) (range_with_len 0 (length names))
 
 -- the text of the names with a slash before each, as a tree counts it
 abbrev pub rooted_text : Names → List ℕ

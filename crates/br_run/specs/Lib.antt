@@ -1,4 +1,4 @@
 pub mod Status
 pub mod Report
-pub mod Root
 pub mod Sinks
+pub mod Root

@@ -8,6 +8,7 @@
 mod answer;
 mod put;
 mod report;
+mod root;
 mod status;
 
 pub use answer::Answer;
