@@ -1,5 +1,5 @@
 -- Paths, as lists of names, each the list of its bytes.
-use Rattle.std.specs.Prelude.{◌≡◌, ◌≢◌, ℕ, ◌+◌, ◌≤◌, ◌<◌, Bool, ◌&&◌, ◌==◌, not, nat_le, nat_lt, IsTrue, List, [], ◌∷◌, ◌++◌, length, take, flat_map, All, Option, Some, None, codes, if◌then◌else◌, position}
+use Rattle.std.specs.Prelude.{◌≡◌, ◌≢◌, ℕ, ◌≤◌, Bool, ◌&&◌, ◌==◌, not, nat_le, IsTrue, List, [], ◌∷◌, ◌++◌, length, take, flat_map, All, Option, Some, None, codes}
 use Rattle.std.specs.List.{join_with_byte, slice_split}
 use Rattle.std.specs.Ordering.{nat_cmp}
 use Rattle.std.specs.declared.cmp.Ordering.{Ordering}
@@ -24,6 +24,10 @@ pub record IsName (name : List ℕ) : Type 0 where
 -- the text of a path: its names with a slash between them, none for the root
 abbrev pub path_text : Names → List ℕ
 path_text names = join_with_byte 47 names
+
+-- the text of the names with a slash behind each
+abbrev pub closed : Names → List ℕ
+closed names = flat_map (λ name. name ++ 47 ∷ []) names
 
 -- the parts of a text between its slashes, one more than it has slashes
 abbrev pub parts : List ℕ → Names

@@ -11,6 +11,6 @@ mod path;
 mod values;
 
 pub use area::Area;
-pub use parse::PathFault;
+pub use parse::{PathFault, texts_are_paths};
 pub use path::Path;
 pub use values::{Bytes, Memory, Names, Numbers};
