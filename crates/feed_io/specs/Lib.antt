@@ -1,5 +1,6 @@
 pub mod Cause
 pub mod Feed
+pub mod FolderFeed
 pub mod Listed
 pub mod MemoryFeed
 pub mod MemorySink
