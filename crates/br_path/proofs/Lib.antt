@@ -1,1 +1,7 @@
+pub mod Children
+pub mod Inputs
+pub mod Maps
+pub mod Neighbours
+pub mod PathOrder
 pub mod Paths
+pub mod Sorted
