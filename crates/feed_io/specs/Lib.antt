@@ -4,4 +4,6 @@ pub mod FolderFeed
 pub mod Listed
 pub mod MemoryFeed
 pub mod MemorySink
+pub mod Reading
 pub mod Sink
+pub mod Taken
