@@ -1,6 +1,9 @@
 pub mod Cause
 pub mod Feed
+pub mod FolderFeed
 pub mod Listed
 pub mod MemoryFeed
 pub mod MemorySink
+pub mod Reading
 pub mod Sink
+pub mod Taken

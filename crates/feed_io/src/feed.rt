@@ -3,6 +3,8 @@ ghost use Rattle.std.specs.Prelude.{ℕ, ◌+◌, ◌≤◌, Option, List, IsErr
 ghost use Rattle.feed_io.specs.declared.feed.FeedFile.{FeedFile};
 
 use br_path::Bytes;
+use std::alloc::{AllocError, AllocFailed};
+use std::io;
 
 /// A file as a feed gives it. Its path is a text of any bytes.
 #[derive(Debug, Drop)]
@@ -18,6 +20,25 @@ pub enum FeedError {
     Failed,
     /// Want of memory.
     Memory,
+}
+
+/// An error of std is a failure, want of memory within its calls included.
+impl From<io::Error> for FeedError {
+    fn from(_error: io::Error) -> FeedError {
+        FeedError::Failed
+    }
+}
+
+impl From<AllocError> for FeedError {
+    fn from(_error: AllocError) -> FeedError {
+        FeedError::Memory
+    }
+}
+
+impl<T: Drop> From<AllocFailed<T>> for FeedError {
+    fn from(_error: AllocFailed<T>) -> FeedError {
+        FeedError::Memory
+    }
 }
 
 /// A source of files.

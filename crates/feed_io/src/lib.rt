@@ -6,12 +6,23 @@
 #![tactic(auto)]
 
 mod feed;
+mod file_sink;
+mod folder_feed;
 mod listed;
 mod memory_feed;
 mod memory_sink;
+mod read;
 mod sink;
+mod stream_sink;
+#[cfg(test)]
+mod tests;
+mod walk;
 
 pub use feed::{Feed, FeedError, FeedFile};
+pub use file_sink::FileSink;
+pub use folder_feed::FolderFeed;
 pub use memory_feed::{FeedFiles, MemoryFeed};
 pub use memory_sink::MemorySink;
+pub use read::{ReadFault, one_reading, read_all};
 pub use sink::{Sink, SinkError};
+pub use stream_sink::StreamSink;
