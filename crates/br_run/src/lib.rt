@@ -10,6 +10,8 @@ mod put;
 mod report;
 mod root;
 mod status;
+mod top;
 
 pub use answer::Answer;
 pub use status::Status;
+pub use top::run;
