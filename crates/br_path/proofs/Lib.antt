@@ -3,3 +3,5 @@ pub mod Maps
 pub mod Neighbours
 pub mod PathOrder
 pub mod Paths
+pub mod Faults
+pub mod Reading
