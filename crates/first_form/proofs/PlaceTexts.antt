@@ -6,7 +6,7 @@ use Rattle.std.specs.Cmp.Lexicographic.{pointwise, bytes_decides}
 use Rattle.std.proofs.lemmas.Bool.{and_parts, or_parts, not-true, leb-true, true≢false, eqb-false, ne_eqb}
 use Rattle.std.proofs.lemmas.Bool.Decides.{Decides-by_and, nat_tests}
 use Rattle.std.proofs.lemmas.List.Elements.{All-nil, All-cons, All-head, All-tail, All-append, All-weaker}
-use Rattle.std.proofs.lemmas.List.Splits.{slice_split_at}
+use Rattle.std.proofs.lemmas.List.Splits.{slice_split_at, slice_split_none}
 use Rattle.br_path.specs.declared.parse.PathFault.{PathFault}
 use Rattle.br_path.specs.declared.parse.PathFault.TheVariants.{Empty, TooLong, BadByte, DotDot, Memory}
 use Rattle.br_path.specs.Path.{Names, IsName, IsPath, is_name_byte, parts, path_text}
@@ -15,7 +15,7 @@ use Rattle.first_form.specs.Form.{begins_with_letter, is_lower, is_upper, is_dig
 use Rattle.br_path.specs.Files.{FileMap, IsFile, IsInput}
 use Rattle.std.specs.FinMap as fin
 use Rattle.std.specs.Option.{is_some}
-use Rattle.first_form.proofs.PathTexts.{path_fault-IsPath, parts-path_text, path_text-parts}
+use Rattle.br_path.proofs.Faults.{path_fault-IsPath, path_fault-parts, parts-path_text}
 
 -- a fault other than want of memory is there
 pub fault_there : (answer : Option PathFault) (fault : PathFault) → IsAnswered answer fault → (fault ≡ Memory → ⊥) → answer ≡ None → ⊥
@@ -147,8 +147,7 @@ no_file files at fault input answered apart =
       | None ↦ λ _. refl
       | Some bytes ↦ λ found.
           let file : IsFile files (parts at) = ap is_some found in
-          let faultless = path_fault-IsPath (parts at) (input.legal (parts at) file) (input.below_root (parts at) file) in
-          absurd (fault_there (path_fault at) fault answered apart (ap path_fault (sym (path_text-parts at)) ∙ faultless))
+          absurd (fault_there (path_fault at) fault answered apart (path_fault-parts at (input.legal (parts at) file)))
     ] refl
 
 -- a package's name has no slash
@@ -161,3 +160,9 @@ name_lacks_slash name is =
 pub parts-package_path : (name at : List ℕ) → IsTrue (is_package_name name) → parts (codes "package/" ++ (name ++ (codes "/" ++ (at ++ [])))) ≡ package_path name (parts at)
 parts-package_path name at is =
     ap (λ more. codes "package" ∷ more) (slice_split_at (λ byte. byte == 47) name 47 (at ++ []) (name_lacks_slash name is) refl ∙ ap (λ rest. name ∷ parts rest) (append-nil at))
+
+-- the recipe of a package has one name below the package's folder
+pub parts-recipe_name : (name : List ℕ) → IsTrue (is_package_name name) → parts (name ++ (codes ".mk" ++ [])) ≡ (name ++ codes ".mk") ∷ []
+parts-recipe_name name is =
+    let plain : All (λ byte. (byte == 47) ≡ false) (codes ".mk") = All-weaker (λ byte. not (byte == 47) ≡ true) (λ byte. (byte == 47) ≡ false) (λ byte told. not-true (byte == 47) told) (codes ".mk") (All-list_all (λ byte. not (byte == 47)) (codes ".mk") refl) in
+    slice_split_none (λ byte. byte == 47) (name ++ codes ".mk") (All-append (λ byte. (byte == 47) ≡ false) name (codes ".mk") (name_lacks_slash name is) plain)

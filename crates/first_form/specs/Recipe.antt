@@ -1,7 +1,9 @@
 -- What a recipe of the first form says.
-use Rattle.std.specs.Prelude.{◌≡◌, ◌≢◌, ℕ, ◌≤◌, List, ◌++◌, All, codes}
+use Rattle.std.specs.Prelude.{◌≡◌, ◌≢◌, ℕ, ◌≤◌, List, [], ◌∷◌, ◌++◌, All, Some, codes}
+use Rattle.std.specs.FinMap as fin
 use Rattle.br_path.specs.Mode.{octal}
-use Rattle.first_form.specs.Form.{upper}
+use Rattle.br_path.specs.Files.{FileMap}
+use Rattle.first_form.specs.Form.{upper, package_path}
 
 -- what the line that installs says: a mode, and the texts of a source and of a place
 abbrev pub install_words : ℕ → List ℕ → List ℕ → List ℕ
@@ -26,3 +28,9 @@ pub record IsRecipe (recipe name : List ℕ) (mode : ℕ) (source place : List �
   pub words : List ℕ
   pub says : SaysInstall words mode source place
   pub text : recipe ≡ recipe_front name ++ words ++ recipe_back
+
+-- of the files, the recipe of the package with this name is for this mode and these texts of a source and of a place
+pub record SaysLine (files : FileMap) (name : List ℕ) (mode : ℕ) (source place : List ℕ) : Type 0 where
+  pub recipe : List ℕ
+  pub there : fin.get files (package_path name ((name ++ codes ".mk") ∷ [])) ≡ Some recipe
+  pub read : IsRecipe recipe name mode source place

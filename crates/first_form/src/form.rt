@@ -3,9 +3,9 @@ ghost use Rattle.std.specs.Prelude.{◌≡◌, IfOk, MatchOption};
 ghost use Rattle.br_path.specs.Files.{FileMap};
 
 use crate::config::package_of;
-use crate::lookups::{recipe_of, source_of};
+use crate::lookups::source_of;
 use crate::places::place_of;
-use crate::recipe::install_line;
+use crate::recipe::line_of;
 use br_path::{Bytes, Files, Memory, Path};
 use std::alloc::Global;
 
@@ -46,10 +46,7 @@ impl FirstForm {
         requires { NamesPackage files.now name.now }
         ensures { IfOk result (λ found. MatchOption found ((form : _) → HasForm files.now form → ⊥) (HasForm files.now)) }
     {
-        let Some(recipe) = recipe_of(alloc, files, name)? else {
-            return Ok(None);
-        };
-        let Some(line) = install_line(alloc, name, recipe)? else {
+        let Some(line) = line_of(alloc, files, name)? else {
             return Ok(None);
         };
         let Some(source) = place_of(alloc, line.source)? else {

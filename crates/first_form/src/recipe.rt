@@ -1,11 +1,14 @@
 //! Reads the recipe of a package.
 ghost use Rattle.std.specs.Prelude.{List, ℕ, ◌≡◌, MatchOption, IfOk};
-ghost use Rattle.first_form.specs.Recipe.{SaysInstall, IsRecipe};
+ghost use Rattle.first_form.specs.declared.form.FirstForm.{FirstForm};
+ghost use Rattle.first_form.specs.Package.{NamesPackage, HasForm};
+ghost use Rattle.first_form.specs.Recipe.{SaysInstall, IsRecipe, SaysLine};
 
 use crate::cuts::{after, between, split_at_space};
+use crate::lookups::recipe_of;
 use crate::octal::octal_front;
 use crate::texts::recipe_front;
-use br_path::Memory;
+use br_path::{Files, Memory};
 use std::alloc::Global;
 
 /// What the line of a recipe says that installs a file.
@@ -19,8 +22,23 @@ pub(crate) struct InstallLine<'a> {
     pub place: &'a [u8],
 }
 
-/// Reads the recipe of the package with this name.
-pub(crate) fn install_line<'a>(
+/// Reads the recipe of the package with this name, which the input names.
+pub(crate) fn line_of<'a>(
+    alloc: Global,
+    files: &'a Files,
+    name: &[u8],
+) -> Result<Option<InstallLine<'a>>, Memory>
+    requires { NamesPackage files.now name.now }
+    ensures { IfOk result (λ found. MatchOption found ((form : FirstForm) → HasForm files.now form → ⊥) (λ line. SaysLine files.now name.now line.mode line.source.now line.place.now)) }
+{
+    match recipe_of(alloc, files, name)? {
+        None => Ok(None),
+        Some(recipe) => install_line(alloc, name, recipe),
+    }
+}
+
+/// Reads a recipe of the package with this name.
+fn install_line<'a>(
     alloc: Global,
     name: &[u8],
     recipe: &'a [u8],

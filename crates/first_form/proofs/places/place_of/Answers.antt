@@ -3,7 +3,7 @@ use Rattle.std.proofs.lemmas.Bool.{false≢true}
 use Rattle.br_path.specs.Path.{path_text}
 use Rattle.br_path.specs.PathFault.{path_fault}
 use Rattle.first_form.specs.Form.{is_place}
-use Rattle.first_form.proofs.PathTexts.{path_text-parts}
+use Rattle.br_path.proofs.Faults.{path_text-parts}
 use Rattle.first_form.proofs.PlaceTexts.{fault_there, path_fault-place, place_read}
 use Rattle.first_form.proofs.places.place_of.Goals as goal
 
