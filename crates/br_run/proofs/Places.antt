@@ -1,5 +1,5 @@
 -- The file at its place, made in its folders.
-use Rattle.std.proofs.Common.{ℕ, zero, suc, ◌≡◌, ◌+◌, ◌<◌, ◌≤◌, Bool, true, false, List, [], ◌∷◌, length, take, Some, None, Ok, inl, inr, refl, sym, ap, ◌∙◌, subst, arith, nat_lt, nat_le, length-append}
+use Rattle.std.proofs.Common.{ℕ, zero, suc, ◌≡◌, ◌+◌, ◌<◌, ◌≤◌, Bool, true, false, ◌&&◌, List, [], ◌∷◌, length, take, Some, None, Ok, inl, inr, refl, sym, ap, ◌∙◌, subst, arith, nat_lt, nat_le, length-append}
 use Rattle.std.specs.FinMap as fin
 use Rattle.std.specs.Cmp.{first_so, second_so}
 use Rattle.std.specs.List.{list_all}
@@ -27,12 +27,18 @@ le_of_nat_le a b is = grind (arith, nat_tests)
 -- a place has a name, few names and a short text
 pub IsShort-is_place : (place : Names) → is_place place ≡ true → (1 ≤ length place) × IsShort place
 IsShort-is_place place is =
-    let three = first_so _ _ is in
-    let two = first_so _ _ three in
-    let filled : 1 ≤ length place = le_of_nat_le _ _ (first_so _ _ two) in
-    let few : length place ≤ 8 = le_of_nat_le _ _ (second_so _ _ two) in
-    let text : length (path_text place) ≤ 255 = le_of_nat_le _ _ (second_so _ _ is) in
-    (filled, record { few = few; short = omega (arith, rooted_text-short place, text) })
+    let some : Bool = nat_le 1 (length place) in
+    let few : Bool = nat_le (length place) 8 in
+    let named : Bool = list_all is_place_name place in
+    let short : Bool = nat_le (length (path_text place)) 255 in
+    let fronts : (some && few) ≡ true = first_so (some && few) named (first_so (some && few && named) short is) in
+    let text : length (path_text place) ≤ 255 = le_of_nat_le _ _ (second_so (some && few && named) short is) in (
+      le_of_nat_le _ _ (first_so some few fronts),
+      record {
+        few = le_of_nat_le _ _ (second_so some few fronts);
+        short = omega (arith, rooted_text-short place, text);
+      },
+    )
 
 -- what the place's parent is, where its folders are there
 parent_fault-place : (tree : Tree) (pen : Pen) (place : Names) (size : ℕ) → size ≡ length place → HasFolders tree pen place size → 1 ≤ size → parent_fault tree (parent_of place) ≡ None

@@ -10,6 +10,8 @@ mod put;
 mod report;
 mod root;
 mod status;
+#[cfg(test)]
+mod tests;
 mod top;
 
 pub use answer::Answer;
