@@ -39,15 +39,16 @@ fn words<R: Env + AllocGlobal>(rt: &R) -> Result<Names, Memory> {
 
 /// The word at a place, read into a buffer that is doubled until it is long enough.
 fn word<R: Env + AllocGlobal>(rt: &R, place: usize) -> Result<Option<Bytes>, Memory> {
-    for doublings in 8..32 {
-        let mut items = vec![in rt.alloc(); 0u8; 1usize << doublings]?;
+    let mut size = 256usize;
+    for _ in 0..usize::BITS {
+        let mut items = vec![in rt.alloc(); 0u8; size]?;
         match rt.arg(place, items.as_mut_slice()) {
             Ok(len) => {
                 items.truncate(len);
                 return Ok(Some(Bytes { items }));
             }
             Err(FillError::NotPresent) => return Ok(None),
-            Err(FillError::TooLong) => {}
+            Err(FillError::TooLong) => size = size.saturating_mul(2),
         }
     }
     Err(Memory)
