@@ -1,11 +1,11 @@
 -- Finite maps that are known by their entries.
-use Rattle.std.proofs.Common.{List, [], ◌∷◌, ◌≡◌, length, refl, sym, ap, subst, ◌∙◌, Bool, true, false, cond, Some, None, Ordering, arith, ℕ, ◌+◌, ◌-◌}
+use Rattle.std.proofs.Common.{List, [], ◌∷◌, ◌≡◌, length, refl, sym, ap, ◌∙◌, true, false, cond, Some, None, Ordering, arith, ◌+◌, ◌-◌}
 use Rattle.std.specs.FinMap as fin
 use Rattle.std.specs.FinMap.{FinMap, find, IsAntisymmetric}
 use Rattle.std.specs.Cmp.{IsTotalOrder, Equal-is}
 use Rattle.std.specs.Option.{is_some}
 use Rattle.std.specs.Ordering.{eq_by_cmp}
-use Rattle.std.proofs.lemmas.Bool.{true_from_ne_false, cond-false, cond-true}
+use Rattle.std.proofs.lemmas.Bool.{cond-false, cond-true}
 use Rattle.std.proofs.lemmas.Cmp.{eq_by_cmp_equiv}
 
 module _ {K X : Type 0} (R : K → K → Ordering) where

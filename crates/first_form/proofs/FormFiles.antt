@@ -1,6 +1,6 @@
 -- The files of a form, as a map with these entries and no other.
-use Rattle.std.proofs.Common.{ℕ, ◌+◌, List, [], ◌∷◌, ◌++◌, ◌≡◌, ◌≤◌, length, Bool, true, false, refl, sym, ap, subst, ◌∙◌, Some, None, Ordering, cond, arith, length-append}
-use Rattle.std.specs.Prelude.{◌≢◌, IsTrue, ◌&&◌, nat_le, codes}
+use Rattle.std.proofs.Common.{ℕ, List, [], ◌∷◌, ◌++◌, ◌≡◌, length, refl, sym, ap, subst, ◌∙◌, Some, None, arith, length-append}
+use Rattle.std.specs.Prelude.{◌≢◌, IsTrue, nat_le, codes}
 use Rattle.std.specs.FinMap as fin
 use Rattle.std.specs.FinMap.{find}
 use Rattle.std.specs.Cmp.{Equal-is}
@@ -10,7 +10,7 @@ use Rattle.br_path.specs.Path.{Names, path_cmp}
 use Rattle.br_path.specs.Files.{FileMap}
 use Rattle.br_path.proofs.PathOrder.{path_total, path_same}
 use Rattle.first_form.specs.declared.form.FirstForm.{FirstForm}
-use Rattle.first_form.specs.Form.{IsForm, is_lower, is_package_name, begins_with_letter, wish_text, config_text, package_config_text, recipe_text, package_path, form_files}
+use Rattle.first_form.specs.Form.{IsForm, is_package_name, begins_with_letter, wish_text, config_text, package_config_text, recipe_text, package_path, form_files}
 use Rattle.first_form.proofs.Entries.{AreApart, HasEntries, from_entries-all, from_entries-has, len-from_entries}
 
 -- the files of a form, one by one

@@ -1,5 +1,5 @@
 -- Texts that are known in front and behind.
-use Rattle.std.proofs.Common.{ℕ, List, [], ◌∷◌, ◌++◌, ◌≡◌, ◌≢◌, sym, ap, ◌∙◌, Some, None, Option, append_assoc}
+use Rattle.std.proofs.Common.{ℕ, List, ◌++◌, ◌≡◌, ◌≢◌, sym, ap, ◌∙◌, Some, None, Option, append_assoc}
 use Rattle.std.specs.Prelude.{MatchOption}
 use Rattle.std.proofs.lemmas.List.{append_cancel_left, append_cancel_right}
 use denote.Ref.{Bor}

@@ -1,5 +1,5 @@
 -- The files of an input of the first form tell what it says, and no other form has them.
-use Rattle.std.proofs.Common.{ℕ, List, [], ◌∷◌, ◌++◌, ◌≡◌, ◌≤◌, ◌<◌, length, refl, sym, ap, subst, ◌∙◌, Option, Some, None, arith, append_assoc}
+use Rattle.std.proofs.Common.{ℕ, List, [], ◌∷◌, ◌++◌, ◌≡◌, ◌≤◌, length, refl, sym, ap, subst, ◌∙◌, Option, Some, None, arith, append_assoc}
 use Rattle.std.specs.Prelude.{IsTrue, codes, MatchOption}
 use Rattle.std.specs.FinMap as fin
 use Rattle.std.specs.Option.{option_copied}
@@ -10,9 +10,9 @@ use Rattle.br_path.specs.Path.{Names, path_cmp, parts, path_text}
 use Rattle.br_path.specs.Files.{FileMap, IsInput}
 use Rattle.first_form.specs.declared.form.FirstForm.{FirstForm}
 use Rattle.first_form.specs.declared.recipe.InstallLine.{InstallLine}
-use Rattle.first_form.specs.Form.{IsForm, is_package_name, is_place, wish_text, config_text, package_config_text, recipe_text, package_path, form_files}
+use Rattle.first_form.specs.Form.{IsForm, is_place, config_text, recipe_text, package_path}
 use Rattle.first_form.specs.Package.{NamesPackage, HasForm}
-use Rattle.first_form.specs.Recipe.{IsRecipe, SaysInstall, SaysLine, install_words, recipe_front, recipe_back}
+use Rattle.first_form.specs.Recipe.{IsRecipe, SaysLine, install_words, recipe_front, recipe_back}
 use Rattle.first_form.proofs.Entries.{HasEntries}
 use Rattle.first_form.proofs.FormFiles.{form_entries, form_has, form_len, form_all}
 use Rattle.first_form.proofs.Middles.{one_between}
@@ -109,8 +109,8 @@ same_form : (a b : FirstForm) → a.package ≡ b.package → a.mode ≡ b.mode 
 same_form a b name mode source place bytes = λ i. record { «package» = name i; mode = mode i; source = source i; place = place i; bytes = bytes i }
 
 -- files are those of one form
-pub one_form : (files : FileMap) (a b : FirstForm) → HasForm files a → HasForm files b → a ≡ b
-one_form files a b first second =
+pub one_form_lem : (files : FileMap) (a b : FirstForm) → HasForm files a → HasForm files b → a ≡ b
+one_form_lem files a b first second =
     let name = one_package files a first b.package (config_there files b second) in
     let line : SaysLine files b.package b.mode (path_text b.source) (path_text b.place) =
     record { recipe = recipe_text b; there = recipe_there files b second b.package (config_there files b second); read = IsRecipe-form b second.legal } in

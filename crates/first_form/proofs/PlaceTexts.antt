@@ -1,11 +1,11 @@
 -- Facts on places, on their texts, and on the texts of paths in a package's folder.
-use Rattle.std.proofs.Common.{ℕ, ◌+◌, List, [], ◌∷◌, ◌++◌, ◌≡◌, ◌≤◌, length, Bool, true, false, refl, sym, ap, subst, ◌∙◌, Option, Some, None, arith, length-append, append-nil, eqb}
+use Rattle.std.proofs.Common.{ℕ, List, [], ◌∷◌, ◌++◌, ◌≡◌, ◌≤◌, length, Bool, true, false, refl, sym, ap, ◌∙◌, Option, Some, None, arith, length-append, append-nil}
 use Rattle.std.specs.Prelude.{All, ◌≢◌, IsTrue, ◌==◌, ◌&&◌, ◌||◌, not, nat_le, codes}
 use Rattle.std.specs.List.{list_all}
 use Rattle.std.specs.Cmp.Lexicographic.{pointwise, bytes_decides}
-use Rattle.std.proofs.lemmas.Bool.{and_parts, or_parts, not-true, leb-true, true≢false, eqb-false, ne_eqb}
+use Rattle.std.proofs.lemmas.Bool.{and_parts, or_parts, not-true, leb-true, true≢false}
 use Rattle.std.proofs.lemmas.Bool.Decides.{Decides-by_and, nat_tests}
-use Rattle.std.proofs.lemmas.List.Elements.{All-nil, All-cons, All-head, All-tail, All-append, All-weaker}
+use Rattle.std.proofs.lemmas.List.Elements.{All-nil, All-cons, All-append, All-weaker}
 use Rattle.std.proofs.lemmas.List.Splits.{slice_split_at, slice_split_none}
 use Rattle.br_path.specs.declared.parse.PathFault.{PathFault}
 use Rattle.br_path.specs.declared.parse.PathFault.TheVariants.{Empty, TooLong, BadByte, DotDot, Memory}

@@ -1,5 +1,5 @@
 -- Facts on what a recipe says: what stands where in it, and that it says one thing.
-use Rattle.std.proofs.Common.{ℕ, ◌+◌, ◌*◌, ◌/◌, ◌%◌, List, [], ◌∷◌, ◌++◌, ◌≡◌, ◌<◌, ◌≤◌, length, Bool, true, false, refl, sym, ap, subst, ◌∙◌, Option, Some, None, arith, length-append, append_assoc, get_or}
+use Rattle.std.proofs.Common.{ℕ, ◌+◌, ◌/◌, ◌%◌, List, ◌∷◌, ◌++◌, ◌≡◌, ◌≤◌, length, Bool, false, refl, sym, ap, subst, ◌∙◌, Option, Some, None, arith, length-append, append_assoc}
 use Rattle.std.specs.Prelude.{All, ◌≢◌, ◌==◌, codes, MatchOption}
 use Rattle.std.specs.List.{slice_split}
 use Rattle.std.proofs.lemmas.Bool.{ne_eqb}

@@ -14,4 +14,4 @@ mod places;
 mod recipe;
 mod texts;
 
-pub use form::FirstForm;
+pub use form::{FirstForm, one_form};

@@ -1,4 +1,4 @@
-use Rattle.std.proofs.Common.{◌≡◌, ◌∙◌, sym, ap, Some}
+use Rattle.std.proofs.Common.{◌∙◌, ap, Some}
 use Rattle.std.proofs.lemmas.Bool.{iff_false}
 use Rattle.first_form.specs.Form.{config_text}
 use Rattle.first_form.proofs.OneForm.{five_files, config_there, found_none, found_some, one_text, NamesPackage-form}

@@ -1,4 +1,3 @@
-use Rattle.std.proofs.Common.{◌≡◌}
 use Rattle.first_form.proofs.Words.{no_source, no_place}
 use Rattle.first_form.proofs.recipe.in_words.Goals as goal
 

@@ -1,4 +1,4 @@
-use Rattle.std.proofs.Common.{◌++◌, ◌≡◌, sym, ap, ◌∙◌}
+use Rattle.std.proofs.Common.{◌++◌, sym, ap, ◌∙◌}
 use Rattle.first_form.specs.Recipe.{recipe_back}
 use Rattle.first_form.proofs.Words.{read_recipe}
 use Rattle.first_form.proofs.recipe.install_line.Goals as goal

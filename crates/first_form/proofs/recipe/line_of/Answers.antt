@@ -1,4 +1,3 @@
-use Rattle.std.proofs.Common.{◌≡◌}
 use Rattle.std.proofs.lemmas.Result.{IfOk-weaker}
 use Rattle.first_form.specs.Form.{recipe_text}
 use Rattle.first_form.proofs.OneForm.{recipe_there, found_none, found_some, line_read}

@@ -1,4 +1,4 @@
-use Rattle.std.proofs.Common.{◌≡◌, sym, ap, ◌∙◌, None, Some, arith, length}
+use Rattle.std.proofs.Common.{◌≡◌, ap, arith, length}
 use Rattle.std.proofs.lemmas.Option.{MatchOption-at_none, MatchOption-at_some}
 use Rattle.first_form.proofs.OneForm.{no_source_place, no_place_place, source_read, HasForm-read, found_none, found_some, one_text}
 use Rattle.first_form.proofs.form.FirstForm.of_package.Goals as goal
