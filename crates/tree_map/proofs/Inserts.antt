@@ -1,10 +1,11 @@
 -- What a map has after an insert.
-use Rattle.std.proofs.Common.{◌≡◌, Bool, true, false, cond, ◌||◌, List, [], ◌∷◌, Some, None, Ordering, Less, Equal, Greater, refl, sym, ap, ◌∙◌, inl, inr, ◌⊎◌}
+use Rattle.std.proofs.Common.{ℕ, ◌+◌, arith, is_some, ◌≡◌, Bool, true, false, cond, ◌||◌, List, [], ◌∷◌, Some, None, Ordering, Less, Equal, Greater, refl, sym, ap, ◌∙◌, inl, inr, ◌⊎◌}
 use Rattle.std.specs.FinMap as fin
 use Rattle.std.specs.FinMap.{FinMap, IsAntisymmetric, find}
 use Rattle.std.specs.FinMap.Entries.{put, by_order}
 use Rattle.std.specs.Cmp.{IsTotalOrder, Equal-is}
-use Rattle.std.specs.List.{list_any}
+use Rattle.std.specs.List.{list_any, sum_by}
+use Rattle.std.proofs.lemmas.List.Sums.{sum_by-cons}
 use Rattle.std.specs.Ordering.{eq_by_cmp, is_eq}
 use Rattle.std.proofs.lemmas.Cmp.{tied_itself}
 
@@ -24,7 +25,25 @@ list_any-put R test k v (e ∷ es) none =
       | Greater ↦ λ none. ap (λ b. test e || b) (list_any-put R test k v es none) ∙ or-swap (test e) (test (k, v)) (list_any test es)
     ] none
 
+-- a sum over the entries after a new one is put in
+sum_by-put : {K X : Type 0} (R : K → K → Ordering) (f : K × X → ℕ) (k : K) (v : X) (es : List (K × X)) → find R k es ≡ None → sum_by f (put R k v es) ≡ f (k, v) + sum_by f es
+sum_by-put R f k v [] none = sum_by-cons f (k, v) []
+sum_by-put R f k v (e ∷ es) none =
+    elim (R k e.0) as (λ r. cond (is_eq r) (Some e.1) (find R k es) ≡ None → sum_by f (by_order r ((k, v) ∷ e ∷ es) ((e.0, v) ∷ es) (e ∷ put R k v es)) ≡ f (k, v) + sum_by f (e ∷ es)) [
+      | Less ↦ λ _. sum_by-cons f (k, v) (e ∷ es)
+      | Equal ↦ λ there. cc
+      | Greater ↦ λ none. omega (arith, sum_by-cons f e (put R k v es), sum_by-put R f k v es none, sum_by-cons f e es)
+    ] none
+
 module _ {K X : Type 0} {R : K → K → Ordering} (o : IsTotalOrder R) where
+  -- a sum over the entries after an insert at a new key
+  pub sum_by-entries_insert : (f : K × X → ℕ) (m : FinMap R X) (k : K) (v : X) → fin.get m k ≡ None → sum_by f (fin.entries (fin.insert m k v)) ≡ f (k, v) + sum_by f (fin.entries m)
+  sum_by-entries_insert f m k v none = ap (sum_by f) (fin.entries-insert o m k v) ∙ sum_by-put R f k v (fin.entries m) (sym (fin.get-entries m k) ∙ none)
+
+  -- an insert at a new key makes one entry more
+  pub len-insert_new : (m : FinMap R X) (k : K) (v : X) → fin.get m k ≡ None → fin.len (fin.insert m k v) ≡ fin.len m + 1
+  len-insert_new m k v none = fin.len-insert o m k v ∙ ap (λ found. cond (is_some found) (fin.len m) (fin.len m + 1)) none
+
   -- some entry passes after an insert at a new key
   pub list_any-entries_insert : (test : K × X → Bool) (m : FinMap R X) (k : K) (v : X) → fin.get m k ≡ None → list_any test (fin.entries (fin.insert m k v)) ≡ (test (k, v) || list_any test (fin.entries m))
   list_any-entries_insert test m k v none =

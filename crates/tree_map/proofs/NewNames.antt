@@ -5,7 +5,7 @@ use Rattle.std.specs.Option.{is_some, option_or, option_and_then, option_map}
 use Rattle.std.specs.Ordering.{eq_by_cmp}
 use Rattle.std.proofs.lemmas.Bool.{false≢true}
 use Rattle.std.proofs.lemmas.Option.{same_Some}
-use Rattle.br_path.specs.Path.{Names, parent_of}
+use Rattle.br_path.specs.Path.{Names, IsPath, parent_of}
 use Rattle.br_path.proofs.PathOrder.{path_total, path_same}
 use Rattle.tree_map.specs.declared.entry.Label.{Label}
 use Rattle.tree_map.specs.declared.entry.Contents.{Contents}
@@ -70,6 +70,13 @@ module _ (tree : Tree) (at : Names) (node : Node) (old : IsTree tree) (free : Is
     | inr same ↦ old.parents q parent (subst IsSome same there) is
   ])
 
+  -- all stands at paths
+  paths-with_name : IsPath at → (q : Names) → IsSome (node_at (with_name tree at node) q) → IsPath q
+  paths-with_name legal q there = elim (get-insert_cases path_total path_same tree.names at node q) [
+    | inl found ↦ subst IsPath (sym found.0) legal
+    | inr same ↦ old.paths q (subst IsSome same there)
+  ]
+
   -- the texts of links are those that were there, and a new link's
   links-with_name : ((text : List ℕ) → node ≡ Link text → IsLinkText text) → (q : Names) (text : List ℕ) → node_at (with_name tree at node) q ≡ Some (Link text) → IsLinkText text
   links-with_name new q text is = elim (get-insert_cases path_total path_same tree.names at node q) [
@@ -108,8 +115,9 @@ mode_at-with_label tree label contents mode (Some (File own)) is = elim (get-ins
 ]
 
 -- a tree with one more folder is a tree
-pub IsTree-with_dir : (tree : Tree) (at : Names) (mode : ℕ) → IsTree tree → IsFree tree at → mode ≤ 4095 → IsTree (with_name tree at (Dir mode))
-IsTree-with_dir tree at mode old free few = record {
+pub IsTree-with_dir : (tree : Tree) (at : Names) (mode : ℕ) → IsTree tree → IsFree tree at → IsPath at → mode ≤ 4095 → IsTree (with_name tree at (Dir mode))
+IsTree-with_dir tree at mode old free legal few = record {
+  paths = paths-with_name tree at (Dir mode) old free legal;
   root = is_dir-with_name tree at (Dir mode) old free [] old.root;
   parents = parents-with_name tree at (Dir mode) old free;
   labels = λ label. old.labels label ∙ sym (is_used-with_name tree at (Dir mode) old free label);
@@ -128,8 +136,9 @@ is_some-with_label tree label contents own =
     ∙ ap (λ b. b || is_some (fin.get tree.labels own)) (eq_by_cmp-label_cmp own label)
 
 -- a tree with one more file, whose label gets contents, is a tree
-pub IsTree-with_file : (tree : Tree) (at : Names) (label : Label) (contents : Contents) → IsTree tree → IsFree tree at → contents.mode ≤ 4095 → IsTree (with_label (with_name tree at (File label)) label contents)
-IsTree-with_file tree at label contents old free few = record {
+pub IsTree-with_file : (tree : Tree) (at : Names) (label : Label) (contents : Contents) → IsTree tree → IsFree tree at → IsPath at → contents.mode ≤ 4095 → IsTree (with_label (with_name tree at (File label)) label contents)
+IsTree-with_file tree at label contents old free legal few = record {
+  paths = paths-with_name tree at (File label) old free legal;
   root = is_dir-with_name tree at (File label) old free [] old.root;
   parents = parents-with_name tree at (File label) old free;
   labels = λ own. is_some-with_label tree label contents own

@@ -1,8 +1,9 @@
 -- What a change does to a tree and a pen, and when it is refused.
 use Rattle.std.specs.Prelude.{◌≡◌, ℕ, ◌+◌, ◌<◌, ◌≤◌, IsSome, List, length, Option, Some, None, Result, Ok, Err, is_some, nat_lt, if◌then◌else◌}
 use Rattle.std.specs.Option.{option_or}
+use Rattle.std.specs.List.{sum_by}
 use Rattle.std.specs.FinMap as fin
-use Rattle.br_path.specs.Path.{Names, parent_of, rooted_text}
+use Rattle.br_path.specs.Path.{Names, IsPath, parent_of, rooted_text}
 use Rattle.tree_map.specs.declared.entry.Label.{Label}
 use Rattle.tree_map.specs.declared.entry.Node.{Node}
 use Rattle.tree_map.specs.declared.entry.Node.TheVariants.{Dir, Link, File}
@@ -79,15 +80,18 @@ unless_refused (Some fault) outcome = Err fault
 abbrev pub changed : Change → State → Result State ChangeFault
 changed change (tree, pen) = unless_refused (fault_of change tree) (limited change (tree, pen))
 
--- a change that can be asked for: its mode is one
-abbrev pub HasMode : Change → Type 0
-HasMode (MakeFile at mode bytes) = mode ≤ 4095
-HasMode (MakeDir at mode) = mode ≤ 4095
+-- a change that can be asked for: its path is one, and its mode at most 07777
+abbrev pub IsAsked : Change → Type 0
+IsAsked (MakeFile at mode bytes) = IsPath at × (mode ≤ 4095)
+IsAsked (MakeDir at mode) = IsPath at × (mode ≤ 4095)
 
--- a state that a task can reach: its tree is a tree, and its own labels in it are those that its pen has drawn
+-- what holds of each state that a task reaches: its tree is a tree, the task's own labels in it are among those that its pen
+-- has drawn, and the pen counts at least the names that stand in it below the root, and the texts of their paths
 pub record IsReached (state : State) : Type 0 where
   pub tree : IsTree state.0
   pub drawn : (label : Label) → IsSome (fin.get state.0.labels label) → label.task ≡ state.1.task → label.number < state.1.next
+  pub names : fin.len state.0.names ≤ state.1.names + 1
+  pub path_bytes : sum_by (λ entry. length (rooted_text entry.0)) (fin.entries state.0.names) ≤ state.1.path_bytes
 
 -- what a call answers and leaves: the outcome, or want of memory; a refusal leaves all as it was
 abbrev pub IsChange : Result State ChangeFault → State → Result (Unit {0}) ChangeFault → State → Type 0

@@ -6,7 +6,7 @@ use Rattle.std.specs.declared.cmp.Ordering.{Ordering}
 use Rattle.std.specs.List.{list_any}
 use Rattle.std.specs.FinMap as fin
 use Rattle.std.specs.FinMap.{FinMap}
-use Rattle.br_path.specs.Path.{Names, path_cmp, parent_of, folders_of, is_name_byte}
+use Rattle.br_path.specs.Path.{Names, IsPath, path_cmp, parent_of, folders_of, is_name_byte}
 use Rattle.tree_map.specs.declared.entry.Label.{Label}
 use Rattle.tree_map.specs.declared.entry.Contents.{Contents}
 use Rattle.tree_map.specs.declared.entry.Node.{Node}
@@ -89,9 +89,10 @@ pub record IsLinkText (text : List ℕ) : Type 0 where
   pub short : length text ≤ 1024
   pub printable : All (λ byte. IsTrue (byte == 47 || is_name_byte byte)) text
 
--- what holds of each tree that is reached: the root is a folder, as is the parent of all that stands anywhere; the labels
--- that stand for something are those that a name has; modes and link texts are within their limits
+-- what holds of each tree that is reached: all stands at paths; the root is a folder, as is the parent of all that stands
+-- anywhere; the labels that stand for something are those that a name has; modes and link texts are within their limits
 pub record IsTree (tree : Tree) : Type 0 where
+  pub paths : (at : Names) → IsSome (node_at tree at) → IsPath at
   pub root : is_dir (node_at tree []) ≡ true
   pub parents : (at parent : Names) → IsSome (node_at tree at) → parent_of at ≡ Some parent → is_dir (node_at tree parent) ≡ true
   pub labels : (label : Label) → is_some (fin.get tree.labels label) ≡ is_used tree.names label

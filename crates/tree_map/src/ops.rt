@@ -2,7 +2,7 @@
 ghost use Rattle.std.specs.Prelude.{◌≡◌, ◌≤◌, Ok, IfOk};
 ghost use Rattle.std.specs.Option.{option_copied};
 ghost use Rattle.tree_map.specs.Tree.{Tree, empty_tree, entry_at, bytes_at, mode_at};
-ghost use Rattle.tree_map.specs.Change.{Change, MakeFile, MakeDir, State, changed, HasMode, IsReached, IsChange};
+ghost use Rattle.tree_map.specs.Change.{Change, MakeFile, MakeDir, State, changed, IsAsked, IsReached, IsChange};
 
 use crate::change::ChangeFault;
 use crate::entry::Entry;
@@ -58,5 +58,5 @@ pub trait TreeOps: Drop {
 /// A law with nothing to run: the first tree is a tree, and each change leaves one.
 pub fn changes_keep_trees()
     ensures first { (pen : Pen) → IsReached (empty_tree, pen) }
-    ensures next { (change : Change) (old new : State) → HasMode change → IsReached old → changed change old ≡ Ok new → IsReached new }
+    ensures next { (change : Change) (old new : State) → IsAsked change → IsReached old → changed change old ≡ Ok new → IsReached new }
 {}
