@@ -30,7 +30,7 @@ module _ {K X : Type 0} {R : K → K → Ordering} (o : IsTotalOrder R) where
   list_any-entries_insert test m k v none =
       ap (list_any test) (fin.entries-insert o m k v) ∙ list_any-put R test k v (fin.entries m) (sym (fin.get-entries m k) ∙ none)
 
-  -- what a key finds after an insert at a new key: the value, or what it found before
+  -- what a key finds after an insert: the value where it is the key of the insert, else what it found before
   pub get-insert_cases : IsAntisymmetric R → (m : FinMap R X) (k : K) (v : X) (q : K) → ((q ≡ k) × (fin.get (fin.insert m k v) q ≡ Some v)) ⊎ (fin.get (fin.insert m k v) q ≡ fin.get m q)
   get-insert_cases same m k v q =
       elim (eq_by_cmp R q k) as (λ b. eq_by_cmp R q k ≡ b → fin.get (fin.insert m k v) q ≡ cond b (Some v) (fin.get m q) → ((q ≡ k) × (fin.get (fin.insert m k v) q ≡ Some v)) ⊎ (fin.get (fin.insert m k v) q ≡ fin.get m q)) [
