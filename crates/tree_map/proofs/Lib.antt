@@ -3,3 +3,4 @@ pub mod Orders
 pub mod Inserts
 pub mod NewNames
 pub mod Reached
+pub mod Undone

@@ -36,7 +36,7 @@ is_dir-no_fault (Some (Dir mode)) none = refl
 is_dir-no_fault (Some (Link text)) none = cc
 is_dir-no_fault (Some (File label)) none = cc
 
--- without a fault there is neither the first nor what the second comes from
+-- where no fault is found, there is no first one, and nothing stands there
 none_of_both : (first : Option ChangeFault) (there : Option Node) (rest : Option ChangeFault) → option_or first (cond (is_some there) (Some Present) rest) ≡ None → (first ≡ None) × (there ≡ None)
 none_of_both None None rest none = (refl, refl)
 none_of_both None (Some there) rest none = cc

@@ -203,18 +203,30 @@ mod tests {
         Ok((tree, pen))
     }
 
-    /// Asserts that a tree and a pen are those of `small`.
-    fn assert_small(rt: &impl Abort, alloc: Global, tree: &MapTree, pen: Pen) -> Result<(), Fail> {
+    /// Asserts what stands in a tree that `small` made.
+    fn assert_entries(rt: &impl Abort, alloc: Global, tree: &MapTree) -> Result<(), Fail> {
         let label = Label { task: 7, number: 0 };
+        let rows = [
+            (b"a".as_slice(), Some(Entry::Dir(0o700))),
+            (b"a/f".as_slice(), Some(Entry::File(label))),
+            (b"b".as_slice(), None),
+        ];
+        for (text, want) in rows {
+            let at = Path::parse(alloc, text)?;
+            assert_eq!(rt; tree.lookup(&at), want);
+        }
+        assert_eq!(rt; tree.lookup(&Path::root(alloc)), Some(Entry::Dir(0o755)));
+        Ok(())
+    }
+
+    #[test]
+    fn makes_a_folder_and_a_file(rt: HostRuntime) -> Result<(), Fail> {
+        let alloc = rt.alloc();
+        let (tree, pen) = small(alloc)?;
+        assert_entries(&rt, alloc, &tree)?;
         let file = Path::parse(alloc, b"a/f")?;
-        let folder = Path::parse(alloc, b"a")?;
-        let root = Path::root(alloc);
-        assert_eq!(rt; tree.lookup(&root), Some(Entry::Dir(0o755)));
-        assert_eq!(rt; tree.lookup(&folder), Some(Entry::Dir(0o700)));
-        assert_eq!(rt; tree.lookup(&file), Some(Entry::File(label)));
         assert_eq!(rt; tree.mode(&file), Some(0o640));
         assert_eq!(rt; tree.bytes(&file), Some(b"bytes".as_slice()));
-        assert_eq!(rt; tree.bytes(&folder), None);
         let want = Pen {
             next: 1,
             bytes: 5,
@@ -227,16 +239,10 @@ mod tests {
     }
 
     #[test]
-    fn makes_a_folder_and_a_file(rt: HostRuntime) -> Result<(), Fail> {
-        let alloc = rt.alloc();
-        let (tree, pen) = small(alloc)?;
-        assert_small(&rt, alloc, &tree, pen)
-    }
-
-    #[test]
     fn refuses_in_order_and_changes_nothing(rt: HostRuntime) -> Result<(), Fail> {
         let alloc = rt.alloc();
         let (mut tree, mut pen) = small(alloc)?;
+        let before = pen;
         let rows = [
             (b"b/c".as_slice(), ChangeFault::Absent),
             (b"a/f/g".as_slice(), ChangeFault::NotDir),
@@ -247,17 +253,14 @@ mod tests {
         for (text, want) in rows {
             let at = Path::parse(alloc, text)?;
             assert_eq!(rt; tree.mkdir(alloc, &at, 0o755, &mut pen), Err(want));
-            assert_eq!(rt;
-                tree.make_file(alloc, &at, 0o644, b"x", &mut pen),
-                Err(want)
-            );
         }
         let root = Path::root(alloc);
         assert_eq!(rt;
-            tree.mkdir(alloc, &root, 0o755, &mut pen),
+            tree.make_file(alloc, &root, 0o644, b"x", &mut pen),
             Err(ChangeFault::Present)
         );
-        assert_small(&rt, alloc, &tree, pen)
+        assert_eq!(rt; pen, before);
+        assert_entries(&rt, alloc, &tree)
     }
 
     #[test]

@@ -7,7 +7,7 @@ use br_path::{Bytes, Path};
 /// The length of the longest text that a name in a tree can have.
 pub(crate) const LENGTH_LIMIT: usize = 1024;
 
-/// The length of the path's text.
+/// The length of the path's text: at most one byte more than a path's text can have without the first `/`.
 pub(crate) fn rooted_length(at: &Path) -> usize
     ensures length { result ≡ length (rooted_text at.now) }
     ensures short { result ≤ 1025 }
