@@ -1,7 +1,9 @@
 pub mod Children
+pub mod Faults
 pub mod Inputs
 pub mod Maps
 pub mod Neighbours
 pub mod PathOrder
 pub mod Paths
+pub mod Reading
 pub mod Sorted

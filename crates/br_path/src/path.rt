@@ -1,5 +1,5 @@
 //! Paths: what they are, their order, and which stands above which.
-ghost use Rattle.std.specs.Prelude.{List, ℕ, ◌≡◌, [], refl, nat_eq, IfOk, OnOk, IsTrue, ◌↔◌, ◌≤◌, length, take};
+ghost use Rattle.std.specs.Prelude.{List, ℕ, ◌≡◌, [], ◌∷◌, ◌++◌, refl, nat_eq, IfOk, OnOk, IsTrue, ◌↔◌, ◌+◌, ◌≤◌, length, take};
 ghost use Rattle.std.specs.Cmp.{nat_eq_equiv, partial_equiv_from_equiv, partial_order_from_agreeing_total};
 ghost use Rattle.std.specs.Cmp.Lexicographic.{slice_cmp, pointwise, lists_per, lists_equiv, lists_total, lists_ties, nat_list_cmp_total, nat_list_eq_equiv, texts_ties};
 ghost use Rattle.std.specs.Ordering.{nat_cmp, as_partial_cmp};
@@ -30,7 +30,7 @@ impl Model for Path {
 }
 
 impl Path {
-    ghost use Rattle.br_path.specs.Path.{IsPath, parent_of, path_cmp, StartsWith};
+    ghost use Rattle.br_path.specs.Path.{IsName, IsPath, closed, parent_of, path_cmp, StartsWith};
 
     /// The root: no name at all.
     pub fn root(alloc: Global) -> Path
@@ -39,6 +39,14 @@ impl Path {
         Path {
             names: Vec::new(alloc),
         }
+    }
+
+    /// The path of these names.
+    pub(crate) fn from_names(names: Vec<Bytes>) -> Path
+        requires { IsPath names.items }
+        ensures { result ≡ names.items }
+    {
+        Path { names }
     }
 
     /// The names, from the root down.
@@ -66,6 +74,17 @@ impl Path {
             names.push(name.copy()?)?;
         }
         Ok(Path { names })
+    }
+
+    /// The path of a name directly below this one.
+    pub(crate) fn with_name(&self, name: Bytes) -> Result<Path, Memory>
+        requires name { IsName name }
+        requires short { length (closed self.now) + length name ≤ 1024 }
+        ensures { IfOk result (λ p. p ≡ self.now ++ name ∷ []) }
+    {
+        let mut path = self.copy()?;
+        path.names.push(name)?;
+        Ok(path)
     }
 
     /// The folder that the path stands in; none for the root.

@@ -1,0 +1,5 @@
+pub mod Changes
+pub mod Entries
+pub mod Folders
+pub mod Places
+pub mod Puts

@@ -1,0 +1,17 @@
+-- The texts of reports.
+use Rattle.std.specs.Prelude.{ℕ, List, [], ◌∷◌, ◌++◌, codes}
+use Rattle.std.specs.Fmt.{decimal}
+
+abbrev pub line : List ℕ → List ℕ
+line text = text ++ 10 ∷ []
+
+abbrev pub status_line : ℕ → List ℕ
+status_line number = line (codes "status " ++ decimal number)
+
+-- the report of a fault: its line, and the status
+abbrev pub fault_report : List ℕ → ℕ → List ℕ
+fault_report fault number = line (codes "fault " ++ fault) ++ status_line number
+
+-- the report of one package that was built, with the number of the image's entries
+abbrev pub built_report : List ℕ → ℕ → List ℕ
+built_report name entries = line (codes "build 1") ++ line (codes "built " ++ name) ++ line (codes "image " ++ decimal entries) ++ status_line 0

@@ -1,0 +1,15 @@
+//! The builder: from words and a feed's files to a report, an image and a status.
+//!
+//! What is answered is one definition over the words and the list of files, apart from how it is found. All texts
+//! are made before the first of them is put, the image first and then the report, so that a call which finds no
+//! memory leaves both sinks alone, and a report stands only behind a whole image.
+#![tactic(auto)]
+
+mod answer;
+mod put;
+mod report;
+mod root;
+mod status;
+
+pub use answer::Answer;
+pub use status::Status;

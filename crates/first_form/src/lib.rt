@@ -1,0 +1,6 @@
+//! The one form of input that is built so far: a package that installs one file.
+#![tactic(auto)]
+
+mod form;
+
+pub use form::FirstForm;

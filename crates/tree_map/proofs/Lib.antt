@@ -1,0 +1,5 @@
+pub mod Lengths
+pub mod Orders
+pub mod Inserts
+pub mod NewNames
+pub mod Reached

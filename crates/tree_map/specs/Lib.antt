@@ -1,0 +1,4 @@
+pub mod Tree
+pub mod Pen
+pub mod Change
+pub mod MapTree
