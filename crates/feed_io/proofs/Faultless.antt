@@ -1,6 +1,6 @@
 -- Facts on lists of files without fault, and on their map.
-use Rattle.std.proofs.Common.{ℕ, ◌+◌, ◌<◌, ◌≤◌, ◌≡◌, ◌≢◌, List, [], ◌∷◌, ◌++◌, length, map, get_or, refl, sym, ap, subst, ◌∙◌, true, false, cond, Option, Some, None, inl, inr, ◌⊎◌, IsSome, length-append, append-nil, nat_eq, arith, zero-add}
-use Rattle.std.specs.Prelude.{All, AllPairs, sum_by}
+use Rattle.std.proofs.Common.{ℕ, ◌+◌, ◌<◌, ◌≤◌, ◌≡◌, List, [], ◌∷◌, ◌++◌, length, map, get_or, refl, sym, ap, subst, ◌∙◌, true, false, cond, Option, Some, None, inl, inr, ◌⊎◌, IsSome, length-append, append-nil, nat_eq, arith, zero-add}
+use Rattle.std.specs.Prelude.{All, AllPairs}
 use Rattle.std.specs.FinMap as fin
 use Rattle.std.specs.Ordering.{eq_by_cmp}
 use Rattle.std.proofs.Math.Seq.{get_or-append_seam}
@@ -10,8 +10,8 @@ use Rattle.std.proofs.lemmas.List.{get_or_append_left, map-append}
 use Rattle.std.proofs.lemmas.List.Elements.{All-head, All-tail, All-cons, All-nil, All-push, All-weaker}
 use Rattle.std.proofs.lemmas.List.Quantifiers.{all_pairs_push}
 use Rattle.std.proofs.lemmas.List.Splits.{length-slice_split}
-use Rattle.std.proofs.lemmas.List.Sums.{sum_by-append, sum_by-cons}
-use Rattle.br_path.specs.Path.{Names, path_cmp, parts}
+use Rattle.std.proofs.lemmas.List.Sums.{sum_by-append}
+use Rattle.br_path.specs.Path.{Names, path_cmp}
 use Rattle.br_path.specs.PathFault.{path_fault}
 use Rattle.br_path.specs.Files.{FileMap, IsFile, Clashes}
 use Rattle.br_path.proofs.Inputs.{IsFile-empty, IsFile-insert}
@@ -101,6 +101,7 @@ none_from_free : (o : Option (List ℕ)) → (IsSome o → ⊥) → o ≡ None
 none_from_free None free = refl
 none_from_free (Some bytes) free = absurd (free refl)
 
+-- the map of a list and one more file, where its place is free
 pub files_of-push : (list : List FeedFile) (file : FeedFile) → (Clashes (files_of list) (place_of file) → ⊥) → files_of (list ++ file ∷ []) ≡ fin.insert (files_of list) (place_of file) file.bytes
 files_of-push list file free =
     let entry : FeedFile → Names × List ℕ = λ other. (place_of other, other.bytes) in

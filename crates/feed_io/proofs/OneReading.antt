@@ -1,15 +1,14 @@
 -- A list of files has at most one fault.
-use Rattle.std.proofs.Common.{ℕ, ◌+◌, ◌<◌, ◌≤◌, ◌≡◌, ◌≢◌, ◌⊎◌, inl, inr, List, [], ◌∷◌, ◌++◌, length, refl, sym, ap, subst, ◌∙◌, None, append_assoc, length-append, arith, get_or}
-use Rattle.std.specs.Prelude.{All}
+use Rattle.std.proofs.Common.{◌<◌, ◌≡◌, inl, inr, List, [], ◌∷◌, ◌++◌, length, refl, sym, ap, subst, ◌∙◌, None, append_assoc, length-append, arith}
 use Rattle.std.proofs.Math.Seq.{get_or-append_seam}
 use Rattle.std.proofs.lemmas.Bool.{cases_lt}
-use Rattle.br_path.specs.Path.{Names, StartsWith}
+use Rattle.br_path.specs.Path.{StartsWith}
 use Rattle.br_path.specs.PathFault.{path_fault}
-use Rattle.br_path.specs.Files.{IsFile, Clashes}
+use Rattle.br_path.specs.Files.{Clashes}
 use Rattle.feed_io.specs.declared.feed.FeedFile.{FeedFile}
 use Rattle.feed_io.specs.declared.read.ReadFault.{ReadFault}
 use Rattle.feed_io.specs.declared.read.ReadFault.TheVariants.{Feed, TooManyFiles, TooLarge, BadPath, Twice, Memory}
-use Rattle.feed_io.specs.Reading.{place_of, files_of, total_size, AreApart, IsFaultless, HasFault, IsFirstReadFault}
+use Rattle.feed_io.specs.Reading.{place_of, files_of, AreApart, IsFaultless, HasFault, IsFirstReadFault}
 use Rattle.feed_io.proofs.Faultless.{IsFaultless-front, All-apart, file_at, place_of-filled, total_size-push}
 
 -- the last file of a list without fault has a path

@@ -1,5 +1,5 @@
 -- Facts on what reading has taken.
-use Rattle.std.proofs.Common.{ℕ, ◌+◌, ◌-◌, ◌^◌, ◌<◌, ◌≤◌, ◌≡◌, ◌≢◌, min, List, [], ◌∷◌, ◌++◌, length, sym, ap, subst, ◌∙◌, Option, Some, None, Ok, append_assoc, length-append, arith}
+use Rattle.std.proofs.Common.{ℕ, ◌+◌, ◌-◌, ◌^◌, ◌≤◌, ◌≡◌, ◌≢◌, min, List, [], ◌∷◌, ◌++◌, length, sym, ap, subst, ◌∙◌, Option, Some, None, Ok, append_assoc, length-append, arith}
 use Rattle.std.specs.FinMap as fin
 use Rattle.br_path.specs.Path.{Names}
 use Rattle.br_path.specs.PathFault.{path_fault}

@@ -1,5 +1,5 @@
 -- The files of a feed's list, or its first fault.
-use Rattle.std.specs.Prelude.{◌≡◌, ◌≢◌, ℕ, ◌+◌, ◌<◌, ◌≤◌, List, [], ◌∷◌, ◌++◌, map, length, sum_by, All, AllPairs, Option, None, Result, Ok, Err}
+use Rattle.std.specs.Prelude.{◌≡◌, ◌≢◌, ℕ, ◌+◌, ◌<◌, ◌≤◌, List, ◌∷◌, ◌++◌, map, length, sum_by, All, AllPairs, None, Result, Ok, Err}
 use Rattle.std.specs.FinMap as fin
 use Rattle.br_path.specs.Path.{Names, parts, StartsWith}
 use Rattle.br_path.specs.PathFault.{path_fault}

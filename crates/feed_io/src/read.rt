@@ -28,7 +28,7 @@ pub enum ReadFault {
     TooLarge,
     /// The text of this file's path is no path.
     BadPath(u32),
-    /// A file has this path, and another one has it too or stands above or below it.
+    /// A file has this path, and one before it has it too, or stands above or below it.
     Twice(Path),
     /// Want of memory.
     Memory,
@@ -117,7 +117,7 @@ pub fn read_all<F: Feed>(alloc: Global, feed: &mut F) -> Result<Files, ReadFault
             Some(file) => taken.add(alloc, number, file)?,
         }
     }
-    Err(ReadFault::TooManyFiles)
+    unreachable!()
 }
 
 /// A law: a list of files without fault has no first fault, and any other list at most one.

@@ -1,4 +1,4 @@
-use Rattle.std.proofs.Common.{◌++◌, [], ◌∷◌, Ok, subst, arith, rules}
+use Rattle.std.proofs.Common.{◌++◌, [], ◌∷◌, Ok, subst, rules}
 use Rattle.feed_io.specs.Feed.{Takes}
 use Rattle.feed_io.proofs.Taking.{IsBegun-push}
 use Rattle.feed_io.proofs.read.read_all.Goals as goal
