@@ -140,17 +140,32 @@ mod tests {
     fn each_kind_of_entry_has_its_lines(rt: HostRuntime) -> Result<(), Fail> {
         let alloc = rt.alloc();
         let text = |bytes: &[u8]| Bytes::from_slice(alloc, bytes);
-        let items = vec![
-            in alloc;
+        let items = vec![in alloc;
             (Path::root(alloc), RootEntry::Dir(0o755)),
-            (at(alloc, &["a"])?, RootEntry::First { mode: 0o4640, bytes: text(b"")? }),
+            (
+                at(alloc, &["a"])?,
+                RootEntry::First {
+                    mode: 0o4640,
+                    bytes: text(b"")?
+                }
+            ),
             (at(alloc, &["b"])?, RootEntry::Link(text(b"../a b")?)),
             (at(alloc, &["d"])?, RootEntry::Dir(0)),
-            (at(alloc, &["d", "f"])?, RootEntry::First { mode: 0o7, bytes: text(b"0123456789abcdefghijklmnopqrstuvw")? }),
-            (at(alloc, &["d", "g"])?, RootEntry::Same(at(alloc, &["d", "f"])?)),
+            (
+                at(alloc, &["d", "f"])?,
+                RootEntry::First {
+                    mode: 0o7,
+                    bytes: text(b"0123456789abcdefghijklmnopqrstuvw")?
+                }
+            ),
+            (
+                at(alloc, &["d", "g"])?,
+                RootEntry::Same(at(alloc, &["d", "f"])?)
+            ),
         ]?;
         let image = write(alloc, &Root { items })?;
-        let wanted = "rootfs 1\nd 0755 /\nf 4640 0 /a\nl /b\n> ../a b\nd 0000 /d\nf 0007 33 /d/f\n= 303132333435363738396162636465666768696a6b6c6d6e6f70717273747576\n= 77\nh /d/g\n> /d/f\nend 6\n";
+        let wanted =
+            "rootfs 1\nd 0755 /\nf 4640 0 /a\nl /b\n> ../a b\nd 0000 /d\nf 0007 33 /d/f\n= 303132333435363738396162636465666768696a6b6c6d6e6f70717273747576\n= 77\nh /d/g\n> /d/f\nend 6\n";
         assert_eq!(rt; image.as_slice(), wanted.as_bytes());
         Ok(())
     }

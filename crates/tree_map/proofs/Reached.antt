@@ -81,9 +81,10 @@ within false after new is = cc
 -- one name more is counted
 counted : (old : State) (at : Names) (node : Node) → IsReached old → IsFree old.0 at
     → (fin.len (with_name old.0 at node).names ≤ old.1.names + 1 + 1) × (sum_by text_length (fin.entries (with_name old.0 at node).names) ≤ old.1.path_bytes + length (rooted_text at))
-counted old at node reached free =
-    (omega (arith, len-insert_new path_total old.0.names at node free.nothing, reached.names),
-     omega (arith, sum_by-entries_insert path_total text_length old.0.names at node free.nothing, reached.path_bytes))
+counted old at node reached free = (
+  omega (arith, len-insert_new path_total old.0.names at node free.nothing, reached.names),
+  omega (arith, sum_by-entries_insert path_total text_length old.0.names at node free.nothing, reached.path_bytes),
+)
 
 -- the state after a change that isn't refused is reached
 IsReached-after : (change : Change) (old : State) → IsAsked change → IsReached old → fault_of change old.0 ≡ None → IsReached (tree_after change old, pen_after change old.1)
