@@ -1,5 +1,5 @@
 -- Changes that nothing but want of memory can refuse.
-use Rattle.std.proofs.Common.{◌≡◌, Bool, true, false, Result, Ok, Err, refl, subst}
+use Rattle.std.proofs.Common.{◌≡◌, Result, Ok, Err, refl, subst}
 use Rattle.std.specs.Prelude.{IfErr, OnOk, is_ok}
 use Rattle.br_path.specs.declared.values.Memory.{Memory as Want}
 use Rattle.tree_map.specs.declared.change.ChangeFault.{ChangeFault}

@@ -1,7 +1,6 @@
 -- The folders of a place, made one after another in a tree.
-use Rattle.std.proofs.Common.{ℕ, zero, suc, ◌≡◌, ◌+◌, ◌*◌, ◌<◌, ◌≤◌, Bool, true, false, cond, List, [], ◌∷◌, ◌++◌, length, take, Option, Some, None, Result, Ok, Err, refl, sym, ap, subst, ◌∙◌, arith, add-one, inl, inr, ◌⊎◌, nat_lt, nat_le, length-append}
+use Rattle.std.proofs.Common.{ℕ, zero, suc, ◌≡◌, ◌+◌, ◌<◌, ◌≤◌, true, false, List, [], ◌∷◌, length, take, Some, None, Ok, refl, sym, ap, ◌∙◌, arith, inl, inr, nat_lt, nat_le, length-append}
 use Rattle.std.specs.FinMap as fin
-use Rattle.std.specs.Option.{is_some, option_or}
 use Rattle.std.proofs.lemmas.Bool.Decides.{nat_tests}
 use Rattle.std.proofs.lemmas.Bool.{cases_lt}
 use Rattle.std.proofs.lemmas.List.{length-take-le}
@@ -9,10 +8,9 @@ use Rattle.br_path.specs.Path.{Names, parent_of, path_cmp, rooted_text}
 use Rattle.br_path.proofs.PathOrder.{path_total, path_same}
 use Rattle.tree_map.specs.declared.entry.Node.TheVariants.{Dir}
 use Rattle.tree_map.specs.declared.pen.Pen.{Pen}
-use Rattle.tree_map.specs.declared.change.ChangeFault.{ChangeFault}
 use Rattle.tree_map.specs.Tree.{Tree, empty_tree, node_at}
 use Rattle.tree_map.specs.Pen.{new_pen, is_within_limits}
-use Rattle.tree_map.specs.Change.{State, MakeDir, named, new_name_fault, no_folder_fault, parent_fault, changed, unless_refused}
+use Rattle.tree_map.specs.Change.{MakeDir, named, new_name_fault, no_folder_fault, parent_fault, changed}
 use Rattle.tree_map.specs.MapTree.{with_name}
 use Rattle.tree_map.proofs.Inserts.{get-insert_cases, get-insert_same}
 use Rattle.br_run.specs.Root.{HasFolders, IsShort}

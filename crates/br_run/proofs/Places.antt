@@ -1,5 +1,5 @@
 -- The file at its place, made in its folders.
-use Rattle.std.proofs.Common.{ℕ, zero, suc, ◌≡◌, ◌+◌, ◌<◌, ◌≤◌, Bool, true, false, ◌&&◌, List, [], ◌∷◌, length, take, Some, None, Ok, inl, inr, refl, sym, ap, ◌∙◌, subst, arith, nat_lt, nat_le, length-append}
+use Rattle.std.proofs.Common.{ℕ, zero, suc, ◌≡◌, ◌+◌, ◌<◌, ◌≤◌, Bool, true, false, ◌&&◌, length, take, None, Ok, inl, inr, refl, sym, ap, ◌∙◌, arith, nat_lt, nat_le}
 use Rattle.std.specs.FinMap as fin
 use Rattle.std.specs.Cmp.{first_so, second_so}
 use Rattle.std.specs.List.{list_all}
@@ -7,11 +7,11 @@ use Rattle.std.proofs.lemmas.Bool.Decides.{nat_tests}
 use Rattle.std.proofs.Math.Seq.{take-length}
 use Rattle.br_path.specs.Path.{Names, parent_of, path_text, rooted_text}
 use Rattle.br_path.proofs.PathOrder.{path_total, path_same}
-use Rattle.tree_map.specs.declared.entry.Node.TheVariants.{Dir, File}
+use Rattle.tree_map.specs.declared.entry.Node.TheVariants.{File}
 use Rattle.tree_map.specs.declared.pen.Pen.{Pen}
-use Rattle.tree_map.specs.Tree.{Tree, node_at, mode_at, mode_of, bytes_at, contents_of}
+use Rattle.tree_map.specs.Tree.{Tree, node_at}
 use Rattle.tree_map.specs.Pen.{is_within_limits}
-use Rattle.tree_map.specs.Change.{MakeFile, State, named, next_label, pen_after, tree_after, new_name_fault, no_folder_fault, parent_fault, changed}
+use Rattle.tree_map.specs.Change.{MakeFile, named, next_label, pen_after, tree_after, new_name_fault, no_folder_fault, parent_fault, changed}
 use Rattle.tree_map.proofs.Inserts.{get-insert_cases, get-insert_same}
 use Rattle.tree_map.proofs.Lengths.{rooted_text-short}
 use Rattle.tree_map.proofs.Orders.{label_total}

@@ -1,5 +1,5 @@
 -- What the builder answers to words and to the files of a feed.
-use Rattle.std.specs.Prelude.{◌≡◌, ℕ, ◌⊎◌, List, [], ◌∷◌, length, Option, Some, None, codes}
+use Rattle.std.specs.Prelude.{◌≡◌, ℕ, ◌⊎◌, List, [], ◌∷◌, length, Some, None, codes}
 use Rattle.feed_io.specs.declared.feed.FeedFile.{FeedFile}
 use Rattle.feed_io.specs.Reading.{IsFaultless, files_of}
 use Rattle.image_text.specs.Image.{image_text}

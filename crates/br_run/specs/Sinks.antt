@@ -1,5 +1,5 @@
 -- What two sinks hold after the texts of an answer were put.
-use Rattle.std.specs.Prelude.{◌≡◌, ℕ, ◌<◌, List, [], ◌++◌, length, take, Option, unwrap_or}
+use Rattle.std.specs.Prelude.{◌≡◌, ℕ, ◌<◌, List, [], length, take, Option, unwrap_or}
 use Rattle.feed_io.specs.Sink.{Appended}
 use Rattle.br_run.specs.declared.answer.Answer.{Answer}
 

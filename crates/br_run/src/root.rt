@@ -1,5 +1,5 @@
 //! The root file system of an input of the first form.
-ghost use Rattle.std.specs.Prelude.{◌≡◌, ◌≤◌, ◌<◌, ◌+◌, ℕ, Ok, Some, IfOk, IfErr, OnOk, is_ok, length, take};
+ghost use Rattle.std.specs.Prelude.{◌≡◌, ◌≤◌, ◌<◌, ◌+◌, IfOk, IfErr, OnOk, is_ok, length};
 ghost use Rattle.first_form.specs.Form.{IsForm};
 ghost use Rattle.br_run.specs.Root.{root_entries, HasRoot, HasFolders, IsShort};
 ghost use Rattle.tree_map.specs.MapTree.{shown};

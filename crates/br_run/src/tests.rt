@@ -1,10 +1,10 @@
 //! Whole runs over feeds and sinks in memory.
 
-use crate::status::Status;
 use crate::top::run;
 use br_path::{Bytes, Memory, Names, Numbers};
 use feed_io::{FeedFile, FeedFiles, MemoryFeed, MemorySink};
 use std::alloc::Global;
+use std::process::Abort;
 use std::test::Fail;
 
 const REPORT: &str = "build 1\nbuilt hello\nimage 4\nstatus 0\n";
@@ -47,12 +47,6 @@ fn files(alloc: Global, texts: &[(&str, &str)]) -> Result<FeedFiles, Memory> {
     Ok(FeedFiles { items })
 }
 
-fn numbers(alloc: Global, all: &[u32]) -> Result<Numbers, Memory> {
-    Ok(Numbers {
-        items: Vec::from_slice(alloc, all)?,
-    })
-}
-
 fn words(alloc: Global, all: &[&str]) -> Result<Names, Memory> {
     let mut items = Vec::new(alloc);
     for word in all {
@@ -61,48 +55,84 @@ fn words(alloc: Global, all: &[&str]) -> Result<Names, Memory> {
     Ok(Names { items })
 }
 
-fn roomy(alloc: Global) -> Result<MemorySink, Memory> {
-    MemorySink::new(alloc, 1000, 1000, numbers(alloc, &[])?)
+/// A list of one call at which a feed or sink fails; at 0 there is none.
+fn call(alloc: Global, number: u32) -> Result<Numbers, Memory> {
+    Ok(Numbers {
+        items: Vec::from_slice(alloc, &[number])?,
+    })
 }
 
-#[test]
-fn one_package_installs_one_file(rt: HostRuntime) -> Result<(), Fail> {
-    let alloc = rt.alloc();
+/// Sinks for a report, which takes 8 bytes a put and fails at this call, and for an image, with this room.
+fn sinks(alloc: Global, out_fails: u32, room: u32) -> Result<(MemorySink, MemorySink), Memory> {
+    let out = MemorySink::new(alloc, 1000, 8, call(alloc, out_fails)?)?;
+    let image = MemorySink::new(alloc, room, 16, call(alloc, 0)?)?;
+    Ok((out, image))
+}
+
+/// Asserts what a run leaves, by its status, its report and its image.
+fn assert_held(
+    rt: &impl Abort,
+    status: u8,
+    sinks: &(MemorySink, MemorySink),
+    wanted: (u8, &str, &str),
+) {
+    assert_eq!(rt; status, wanted.0);
+    assert_eq!(rt; sinks.0.held(), wanted.1.as_bytes());
+    assert_eq!(rt; sinks.1.held(), wanted.2.as_bytes());
+}
+
+/// Builds the package hello over a feed and sinks that fail so, and asserts what is left.
+fn check_hello(
+    rt: &impl Abort,
+    alloc: Global,
+    feed_fails: u32,
+    out_fails: u32,
+    room: u32,
+    wanted: (u8, &str, &str),
+) -> Result<(), Memory> {
     let build = words(alloc, &["build"])?;
-    let mut feed = MemoryFeed::new(hello(alloc)?, numbers(alloc, &[])?);
-    let (mut out, mut image) = (roomy(alloc)?, roomy(alloc)?);
-    let status = run(alloc, &build.items, &mut feed, &mut out, &mut image);
-    assert_eq!(rt; status, Status::Done);
-    assert_eq!(rt; status.number(), 0);
-    assert_eq!(rt; out.held(), REPORT.as_bytes());
-    assert_eq!(rt; image.held(), IMAGE.as_bytes());
+    let mut feed = MemoryFeed::new(hello(alloc)?, call(alloc, feed_fails)?);
+    let mut sinks = sinks(alloc, out_fails, room)?;
+    let status = run(alloc, &build.items, &mut feed, &mut sinks.0, &mut sinks.1);
+    assert_held(rt, status.number(), &sinks, wanted);
+    Ok(())
+}
+
+/// Asserts that these words and files aren't built yet.
+fn check_not_yet(
+    rt: &impl Abort,
+    alloc: Global,
+    all: &[&str],
+    files: FeedFiles,
+) -> Result<(), Memory> {
+    let words = words(alloc, all)?;
+    let mut feed = MemoryFeed::new(files, call(alloc, 0)?);
+    let mut sinks = sinks(alloc, 0, 1000)?;
+    let status = run(alloc, &words.items, &mut feed, &mut sinks.0, &mut sinks.1);
+    assert_held(rt, status.number(), &sinks, (3, NOT_YET, ""));
     Ok(())
 }
 
 #[test]
-fn other_words_and_other_input_are_not_yet_built(rt: HostRuntime) -> Result<(), Fail> {
+fn one_package_installs_one_file(rt: HostRuntime) -> Result<(), Fail> {
+    check_hello(&rt, rt.alloc(), 0, 0, 1000, (0, REPORT, IMAGE))?;
+    Ok(())
+}
+
+#[test]
+fn other_words_are_not_yet_run(rt: HostRuntime) -> Result<(), Fail> {
     let alloc = rt.alloc();
-    let none: [&str; 0] = [];
-    let cases = [
-        (
-            words(alloc, &["build"])?,
-            files(alloc, &[("Config.in", "")])?,
-        ),
-        (
-            words(alloc, &["build"])?,
-            files(alloc, &[("a", ""), ("a", "")])?,
-        ),
-        (words(alloc, &["build", "-j"])?, hello(alloc)?),
-        (words(alloc, &["config"])?, hello(alloc)?),
-        (words(alloc, &none)?, hello(alloc)?),
-    ];
-    for (words, files) in Vec::from_array(alloc, cases)? {
-        let mut feed = MemoryFeed::new(files, numbers(alloc, &[])?);
-        let (mut out, mut image) = (roomy(alloc)?, roomy(alloc)?);
-        let status = run(alloc, &words.items, &mut feed, &mut out, &mut image);
-        assert_eq!(rt; status, Status::BadInput);
-        assert_eq!(rt; out.held(), NOT_YET.as_bytes());
-        assert_eq!(rt; image.held(), b"".as_slice());
+    for all in [["config"].as_slice(), &["build", "-j"], &[]] {
+        check_not_yet(&rt, alloc, all, hello(alloc)?)?;
+    }
+    Ok(())
+}
+
+#[test]
+fn other_input_is_not_yet_built(rt: HostRuntime) -> Result<(), Fail> {
+    let alloc = rt.alloc();
+    for texts in [[("Config.in", "")].as_slice(), &[("a", ""), ("a", "")]] {
+        check_not_yet(&rt, alloc, &["build"], files(alloc, texts)?)?;
     }
     Ok(())
 }
@@ -110,50 +140,19 @@ fn other_words_and_other_input_are_not_yet_built(rt: HostRuntime) -> Result<(), 
 #[test]
 fn a_feed_that_fails_at_any_call_gives_its_fault(rt: HostRuntime) -> Result<(), Fail> {
     let alloc = rt.alloc();
-    let build = words(alloc, &["build"])?;
-    for call in 1..=7 {
-        let mut feed = MemoryFeed::new(hello(alloc)?, numbers(alloc, &[call])?);
-        let (mut out, mut image) = (roomy(alloc)?, roomy(alloc)?);
-        let status = run(alloc, &build.items, &mut feed, &mut out, &mut image);
-        let (number, report, text) = if call < 7 {
-            (5, FEED_FAULT, "")
-        } else {
-            (0, REPORT, IMAGE)
-        };
-        assert_eq!(rt; status.number(), number, "at call {call}");
-        assert_eq!(rt; out.held(), report.as_bytes(), "at call {call}");
-        assert_eq!(rt; image.held(), text.as_bytes(), "at call {call}");
+    for number in 1..=6 {
+        check_hello(&rt, alloc, number, 0, 1000, (5, FEED_FAULT, ""))?;
     }
+    check_hello(&rt, alloc, 7, 0, 1000, (0, REPORT, IMAGE))?;
     Ok(())
 }
 
 #[test]
 fn a_sink_that_fails_holds_a_front_of_its_text(rt: HostRuntime) -> Result<(), Fail> {
     let alloc = rt.alloc();
-    let build = words(alloc, &["build"])?;
-    // The image's room and the call at which `out` fails, the status, and how much of each text is held.
-    let cases = [
-        (1000, 2, 6, 85, 8),
-        (40, 9, 6, 40, 0),
-        (84, 9, 6, 84, 0),
-        (85, 9, 0, 85, 37),
-    ];
-    for (room, fails, number, of_image, of_report) in cases {
-        let mut feed = MemoryFeed::new(hello(alloc)?, numbers(alloc, &[])?);
-        let mut out = MemorySink::new(alloc, 1000, 8, numbers(alloc, &[fails])?)?;
-        let mut image = MemorySink::new(alloc, room, 16, numbers(alloc, &[])?)?;
-        let status = run(alloc, &build.items, &mut feed, &mut out, &mut image);
-        assert_eq!(rt; status.number(), number, "room {room}");
-        assert_eq!(rt;
-            image.held(),
-            IMAGE.as_bytes().get(..of_image).ok_or("short")?,
-            "room {room}"
-        );
-        assert_eq!(rt;
-            out.held(),
-            REPORT.as_bytes().get(..of_report).ok_or("short")?,
-            "room {room}"
-        );
-    }
+    let front = "rootfs 1\nd 0755 /\nd 0755 /usr\nd 0755 /us";
+    check_hello(&rt, alloc, 0, 2, 1000, (6, "build 1\n", IMAGE))?;
+    check_hello(&rt, alloc, 0, 0, 40, (6, "", front))?;
+    check_hello(&rt, alloc, 0, 0, 85, (0, REPORT, IMAGE))?;
     Ok(())
 }

@@ -1,4 +1,4 @@
-use Rattle.std.proofs.Common.{ℕ, ◌≡◌, ◌+◌, ◌≤◌, [], take, drop, length}
+use Rattle.std.proofs.Common.{ℕ, ◌≡◌, ◌≤◌, [], take, drop, length}
 use Rattle.feed_io.specs.Sink.{Appended}
 use Rattle.br_run.proofs.put.put_all.Given as goal
 

@@ -1,4 +1,3 @@
-use Rattle.std.proofs.Common.{◌≡◌}
 use Rattle.br_run.proofs.Puts.{IsWritten-or-IsCutShort}
 use Rattle.br_run.proofs.put.put_answer.Goals as goal
 

@@ -1,5 +1,4 @@
-use Rattle.std.proofs.Common.{◌≡◌, ◌+◌}
-use Rattle.tree_map.specs.Change.{State, IsChange, changed, MakeDir}
+use Rattle.std.proofs.Common.{◌+◌}
 use Rattle.tree_map.specs.MapTree.{shown}
 use Rattle.br_run.specs.Root.{HasFolders}
 use Rattle.br_run.proofs.Changes.{made_so, only_memory}

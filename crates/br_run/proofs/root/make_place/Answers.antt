@@ -1,5 +1,3 @@
-use Rattle.std.proofs.Common.{◌≡◌}
-use Rattle.tree_map.specs.Change.{State}
 use Rattle.tree_map.specs.MapTree.{shown}
 use Rattle.br_run.specs.Root.{HasRoot}
 use Rattle.br_run.proofs.Changes.{made_so, only_memory}

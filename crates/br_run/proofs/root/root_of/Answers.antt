@@ -1,4 +1,4 @@
-use Rattle.std.proofs.Common.{ℕ, ◌≡◌, Some, sym, ap, ◌∙◌}
+use Rattle.std.proofs.Common.{◌≡◌, Some, sym, ap, ◌∙◌}
 use Rattle.tree_map.specs.MapTree.{shown}
 use Rattle.tree_map.specs.Tree.{mode_at}
 use Rattle.br_run.proofs.Entries.{folders-more}

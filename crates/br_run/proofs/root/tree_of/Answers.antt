@@ -1,4 +1,3 @@
-use Rattle.std.proofs.Common.{◌≡◌}
 use Rattle.br_run.proofs.Folders.{HasFolders-empty}
 use Rattle.br_run.proofs.Places.{IsShort-is_place}
 use Rattle.br_run.proofs.root.tree_of.Goals as goal

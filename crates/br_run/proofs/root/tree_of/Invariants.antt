@@ -1,4 +1,3 @@
-use Rattle.std.proofs.Common.{◌≡◌}
 use Rattle.tree_map.specs.MapTree.{shown}
 use Rattle.br_run.specs.Root.{HasFolders}
 use Rattle.br_run.proofs.root.tree_of.Given as goal
