@@ -1,5 +1,5 @@
 //! Feeds: where the input comes from.
-ghost use Rattle.std.specs.Prelude.{ℕ, ◌+◌, ◌≤◌, Option, List, IsErrOf};
+ghost use Rattle.std.specs.Prelude.{◌≡◌, ℕ, ◌+◌, ◌≤◌, Option, List, IsErrOf};
 ghost use Rattle.feed_io.specs.declared.feed.FeedFile.{FeedFile};
 
 use br_path::Bytes;
@@ -24,18 +24,30 @@ pub enum FeedError {
 
 /// An error of std is a failure, want of memory within its calls included.
 impl From<io::Error> for FeedError {
+    ghost use Rattle.feed_io.specs.declared.feed.FeedError.TheVariants.{Failed};
+
+    ghost from_gives = { λ _ error. error ≡ Failed };
+
     fn from(_error: io::Error) -> FeedError {
         FeedError::Failed
     }
 }
 
 impl From<AllocError> for FeedError {
+    ghost use Rattle.feed_io.specs.declared.feed.FeedError.TheVariants.{Memory};
+
+    ghost from_gives = { λ _ error. error ≡ Memory };
+
     fn from(_error: AllocError) -> FeedError {
         FeedError::Memory
     }
 }
 
 impl<T: Drop> From<AllocFailed<T>> for FeedError {
+    ghost use Rattle.feed_io.specs.declared.feed.FeedError.TheVariants.{Memory};
+
+    ghost from_gives = { λ _ error. error ≡ Memory };
+
     fn from(_error: AllocFailed<T>) -> FeedError {
         FeedError::Memory
     }

@@ -33,27 +33,32 @@ fn feed(alloc: Global, paths: &str, fails: &[u32]) -> Result<MemoryFeed, AllocEr
     Ok(MemoryFeed::new(FeedFiles { items }, numbers(alloc, fails)?))
 }
 
-/// Asks a feed until it has no more, and writes a line for each answer: a file's path, or that it failed.
-fn answers<F: Feed>(alloc: Global, feed: &mut F) -> Result<String, Fail> {
-    let mut lines = String::new(alloc);
-    for _ in 0..100 {
-        match feed.next() {
-            Ok(Some(file)) => lines.push_str(str::from_utf8(file.path.as_slice())?)?,
-            Ok(None) => break,
-            Err(FeedError::Failed) => lines.push_str("failed")?,
-            Err(FeedError::Memory) => lines.push_str("memory")?,
-        }
-        lines.push_str("\n")?;
+/// An answer of a feed in a word: the file's path where it gave one.
+fn word(answer: &Result<Option<FeedFile>, FeedError>) -> &str {
+    match answer {
+        Ok(Some(file)) => str::from_utf8(file.path.as_slice()).unwrap_or("no text"),
+        Ok(None) => "end",
+        Err(FeedError::Failed) => "failed",
+        Err(FeedError::Memory) => "memory",
     }
-    Ok(lines)
+}
+
+/// What a feed answers to so many calls, a word and a space for each.
+fn answers<F: Feed>(alloc: Global, feed: &mut F, calls: u32) -> Result<String, AllocError> {
+    let mut words = String::new(alloc);
+    for _ in 0..calls {
+        words.push_str(word(&feed.next()))?;
+        words.push_str(" ")?;
+    }
+    Ok(words)
 }
 
 #[test]
 fn a_feed_in_memory_fails_where_it_is_told(rt: HostRuntime) -> Result<(), Fail> {
     let mut feed = feed(rt.alloc(), "a b", &[1, 3])?;
     assert_eq!(rt;
-        answers(rt.alloc(), &mut feed)?.as_str(),
-        "failed\na\nfailed\nb\n"
+        answers(rt.alloc(), &mut feed, 5)?.as_str(),
+        "failed a failed b end "
     );
     Ok(())
 }
@@ -93,27 +98,35 @@ fn a_folder_gives_its_four_tops_by_names_in_bytes(rt: HostRuntime) -> Result<(),
     }
     symlink(&rt, "b", "input/package/link")?;
     let mut feed = FolderFeed::new(rt, bytes(rt.alloc(), "input")?);
-    let want = "Config.in\npackage/a/B\npackage/a/z\npackage/a.b\npackage/b\nfailed\n";
-    assert_eq!(rt; answers(rt.alloc(), &mut feed)?.as_str(), want);
+    let want = "Config.in package/a/B package/a/z package/a.b package/b failed end ";
+    assert_eq!(rt; answers(rt.alloc(), &mut feed, 7)?.as_str(), want);
     fs::remove_dir_all(&rt, "input")?;
     Ok(())
 }
 
+/// How many bytes a sink takes of two pieces and of an empty one between them, as far as it doesn't fail.
+fn taken<S: Sink>(sink: &mut S) -> Result<(usize, usize, usize), SinkError> {
+    Ok((sink.put(b"ab")?, sink.put(b"")?, sink.put(b"cde")?))
+}
+
 #[test]
-fn a_stream_and_a_file_take_whole_pieces(rt: HostRuntime) -> Result<(), Fail> {
+fn a_stream_takes_whole_pieces(rt: HostRuntime) -> Result<(), Fail> {
     let mut stream = StreamSink::new(fs::create(&rt, "stream")?);
-    let mut file = FileSink::new(rt, bytes(rt.alloc(), "file")?);
-    let mut nowhere = FileSink::new(rt, bytes(rt.alloc(), "missing/file")?);
+    assert_eq!(rt; taken(&mut stream), Ok((2, 0, 3)));
+    assert_eq!(rt; fs::read_to_string(&rt, "stream")?.as_str(), "abcde");
+    fs::remove_file(&rt, "stream")?;
+    Ok(())
+}
+
+#[test]
+fn a_file_is_emptied_and_takes_whole_pieces(rt: HostRuntime) -> Result<(), Fail> {
     fs::write(&rt, "file", "what stood there before")?;
-    for piece in ["ab", "", "cde"] {
-        assert_eq!(rt; stream.put(piece.as_bytes()), Ok(piece.len()));
-        assert_eq!(rt; file.put(piece.as_bytes()), Ok(piece.len()));
-        assert_eq!(rt; nowhere.put(piece.as_bytes()), Err(SinkError::Failed));
-    }
-    for name in ["stream", "file"] {
-        assert_eq!(rt; fs::read_to_string(&rt, name)?.as_str(), "abcde");
-        fs::remove_file(&rt, name)?;
-    }
+    let mut file = FileSink::new(rt, bytes(rt.alloc(), "file")?);
+    assert_eq!(rt; taken(&mut file), Ok((2, 0, 3)));
+    assert_eq!(rt; fs::read_to_string(&rt, "file")?.as_str(), "abcde");
+    fs::remove_file(&rt, "file")?;
+    let mut nowhere = FileSink::new(rt, bytes(rt.alloc(), "missing/file")?);
+    assert_eq!(rt; taken(&mut nowhere), Err(SinkError::Failed));
     Ok(())
 }
 
