@@ -16,7 +16,7 @@ pub struct FeedFile {
 /// Why a feed gives nothing.
 #[derive(Clone, Copy, Debug, PartialEq, Eq)]
 pub enum FeedError {
-    /// The feed failed, and counts one fault more.
+    /// The feed failed, and its count of faults rose.
     Failed,
     /// Want of memory.
     Memory,
@@ -64,7 +64,7 @@ pub trait Feed {
     /// How often it has failed. The count stands still at 2^64 - 1.
     ghost faults: { Self → ℕ };
 
-    /// How often it was asked.
+    /// A count of calls, which each call raises by one at most.
     ghost calls: { Self → ℕ };
 
     /// Takes the first file left, or says that none is left.

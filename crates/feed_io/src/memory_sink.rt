@@ -1,5 +1,5 @@
 //! A sink in memory.
-ghost use Rattle.std.specs.Prelude.{◌≡◌, ℕ, ◌+◌, ◌-◌, ◌^◌, ◌≤◌, ◌||◌, ◌&&◌, ◌==◌, not, min, List, [], length, Some, is_err, IsErr, IfOk, OnErr};
+ghost use Rattle.std.specs.Prelude.{◌≡◌, ◌+◌, ◌-◌, ◌^◌, ◌≤◌, ◌||◌, ◌&&◌, ◌==◌, not, min, [], length, Some, is_err, IsErr, IfOk, OnErr};
 ghost use Rattle.feed_io.specs.Cause.{HasCause};
 ghost use Rattle.feed_io.specs.Listed.{is_listed};
 ghost use Rattle.feed_io.specs.Sink.{IsPut};

@@ -6,7 +6,7 @@ ghost use Rattle.feed_io.specs.Sink.{IsPut};
 /// Why a sink takes nothing.
 #[derive(Clone, Copy, Debug, PartialEq, Eq)]
 pub enum SinkError {
-    /// The sink failed, and counts one fault more.
+    /// The sink failed, and its count of faults rose.
     Failed,
 }
 
