@@ -39,9 +39,17 @@ found_none found there bytes same is some = none-some bytes (sym (ap option_copi
 pub one_text : (there : Option (List ℕ)) (a b : List ℕ) → there ≡ Some a → there ≡ Some b → a ≡ b
 one_text there a b first second = same_Some a b (sym first ∙ second)
 
+-- what stands behind a front, with more behind it
+behind : (whole front rest more : List ℕ) → whole ≡ front ++ rest → whole ++ more ≡ front ++ (rest ++ more)
+behind whole front rest more is = ap (λ text. text ++ more) is ∙ append_assoc front rest more
+
 -- the words of a recipe, taken together
 regroup : (front mode first source second place back : List ℕ) → front ++ mode ++ first ++ source ++ second ++ place ++ back ≡ front ++ (mode ++ first ++ source ++ second ++ place) ++ back
-regroup front mode first source second place back = simp append_assoc
+regroup front mode first source second place back =
+    let one = append_assoc front mode first in
+    let two = behind (front ++ mode ++ first) front (mode ++ first) source one in
+    let three = behind (front ++ mode ++ first ++ source) front (mode ++ first ++ source) second two in
+    ap (λ text. text ++ back) (behind (front ++ mode ++ first ++ source ++ second) front (mode ++ first ++ source ++ second) place three)
 
 -- the recipe of a form is one
 IsRecipe-form : (form : FirstForm) → IsForm form → IsRecipe (recipe_text form) form.package form.mode (path_text form.source) (path_text form.place)

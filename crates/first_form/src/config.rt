@@ -13,11 +13,14 @@ use crate::texts::{package_config_text, wish_text};
 use br_path::{Files, Memory};
 use std::alloc::Global;
 
+/// How many files an input of the first form has.
+const FILE_COUNT: usize = 5;
+
 /// The name of the package that the input is about.
 pub(crate) fn package_of<'a>(alloc: Global, files: &'a Files) -> Result<Option<&'a [u8]>, Memory>
     ensures { IfOk result (λ found. MatchOption found ((form : FirstForm) → HasForm files.now form → ⊥) (λ name. NamesPackage files.now name.now)) }
 {
-    if files.len() != 5 {
+    if files.len() != FILE_COUNT {
         return Ok(None);
     }
     let Some(config) = file_at(alloc, files, b"Config.in")? else {

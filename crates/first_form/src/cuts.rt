@@ -9,7 +9,7 @@ pub(crate) fn after<'a>(text: &'a [u8], front: &[u8]) -> Option<&'a [u8]>
 }
 
 /// What stands before the back of a text.
-pub(crate) fn before<'a>(text: &'a [u8], back: &[u8]) -> Option<&'a [u8]>
+fn before<'a>(text: &'a [u8], back: &[u8]) -> Option<&'a [u8]>
     ensures { MatchOption result ((rest : List ℕ) → text.now ≡ rest ++ back.now → ⊥) (λ rest. text.now ≡ rest.now ++ back.now) }
 {
     text.strip_suffix(back)

@@ -32,6 +32,8 @@ impl FirstForm {
     ghost use Rattle.first_form.specs.Package.{NamesPackage, HasForm};
 
     /// Finds what an input says, where it has the first form.
+    ///
+    /// The time is proportional to the texts of its five files.
     pub fn of(alloc: Global, files: &Files) -> Result<Option<FirstForm>, Memory>
         ensures { IfOk result (λ found. MatchOption found ((form : _) → IsForm form → files.now ≡ form_files form → ⊥) (λ form. IsForm form × (files.now ≡ form_files form))) }
     {
@@ -83,84 +85,95 @@ mod tests {
     use super::*;
     use std::test::Fail;
 
-    /// The files of the package `hello`, with one text put for another in all paths and texts, in upper case too.
-    fn hello(alloc: Global, old: &str, new: &str) -> Result<Files, Fail> {
-        let old_symbol = old.to_ascii_uppercase(alloc)?;
-        let new_symbol = new.to_ascii_uppercase(alloc)?;
-        let files = [
-            (".config", "BR2_PACKAGE_HELLO=y\n"),
-            ("Config.in", "source \"package/hello/Config.in\"\n"),
-            (
-                "package/hello/Config.in",
-                "config BR2_PACKAGE_HELLO\n\tbool \"hello\"\n",
-            ),
-            (
-                "package/hello/hello.mk",
-                "define HELLO_INSTALL_TARGET_CMDS\n\t$(INSTALL) -D -m 0755 $(@D)/hello.sh $(TARGET_DIR)/usr/bin/hello\nendef\n$(eval $(generic-package))\n",
-            ),
-            ("package/hello/src/hello.sh", "hi\n"),
-        ];
-        let mut input = Files::new(alloc);
-        for (path, text) in files {
-            let path = path.replace(alloc, old, new)?;
-            let text = text.replace(alloc, old, new)?;
-            let text = text
-                .as_str()
-                .replace(alloc, old_symbol.as_str(), new_symbol.as_str())?;
-            let at = Path::parse(alloc, path.as_bytes())?;
-            let bytes = Bytes::from_slice(alloc, text.as_bytes())?;
-            input.add(at, bytes)?;
-        }
-        Ok(input)
+    const FRONT: &str = "define HELLO_INSTALL_TARGET_CMDS\n\t$(INSTALL) -D -m ";
+
+    const BACK: &str = "\nendef\n$(eval $(generic-package))\n";
+
+    const WORDS: &str = "0755 $(@D)/hello.sh $(TARGET_DIR)/usr/bin/hello";
+
+    /// Adds a file, whose path and text are put together of parts.
+    fn add(alloc: Global, files: &mut Files, at: &[&str], text: &[&str]) -> Result<(), Fail> {
+        let at = at.concat(alloc)?;
+        let text = text.concat(alloc)?;
+        let at = Path::parse(alloc, at.as_bytes())?;
+        files.add(at, Bytes::from_slice(alloc, text.as_bytes())?)?;
+        Ok(())
     }
 
-    #[test]
-    fn the_first_form_is_told_from_others(rt: HostRuntime) -> Result<(), Fail> {
-        let alloc = rt.alloc();
-        let most = "x".repeat(alloc, 65_536)?;
-        let more = "x".repeat(alloc, 65_537)?;
-        let cases = [
-            ("hello", "hello", true),
-            ("hello", "guest", true),
-            ("hello", "host", false),
-            ("0755", "4711", true),
-            ("0755", "0o755", false),
-            ("0755", "755", false),
-            ("0755", "0888", false),
-            ("hello.sh", "he-llo.sh", true),
-            ("hello.sh", "he+llo.sh", false),
-            ("package))\n", "package))", false),
-            ("hello.sh ", "hello.sh  ", false),
-            ("usr/bin/hello", "1/2/3/4/5/6/7/8", true),
-            ("usr/bin/hello", "1/2/3/4/5/6/7/8/9", false),
-            ("usr/bin", "usr/..", false),
-            ("hi\n", most.as_str(), true),
-            ("hi\n", more.as_str(), false),
-            ("define HELLO", "define OTHER", false),
-        ];
-        for (old, new, is_form) in cases {
-            let files = hello(alloc, old, new)?;
-            let found = FirstForm::of(alloc, &files)?;
-            assert_eq!(rt; found.is_some(), is_form, "at {old:?}");
-        }
-        let mut six = hello(alloc, "hello", "hello")?;
-        let at = Path::parse(alloc, b"more")?;
-        let bytes = Bytes::from_slice(alloc, b"")?;
-        six.add(at, bytes)?;
-        assert!(rt; FirstForm::of(alloc, &six)?.is_none());
-        Ok(())
+    /// The three files that a package's name tells.
+    fn named(alloc: Global, name: &str, symbol: &str) -> Result<Files, Fail> {
+        let mut files = Files::new(alloc);
+        add(
+            alloc,
+            &mut files,
+            &[".config"],
+            &["BR2_PACKAGE_", symbol, "=y\n"],
+        )?;
+        add(
+            alloc,
+            &mut files,
+            &["Config.in"],
+            &["source \"package/", name, "/Config.in\"\n"],
+        )?;
+        add(
+            alloc,
+            &mut files,
+            &["package/", name, "/Config.in"],
+            &["config BR2_PACKAGE_", symbol, "\n\tbool \"", name, "\"\n"],
+        )?;
+        Ok(files)
+    }
+
+    /// The five files of the package `hello` with this recipe, and a source of this name with these bytes.
+    fn hello(alloc: Global, recipe: &[&str], source: &str, bytes: &str) -> Result<Files, Fail> {
+        let mut files = named(alloc, "hello", "HELLO")?;
+        add(alloc, &mut files, &["package/hello/hello.mk"], recipe)?;
+        add(alloc, &mut files, &["package/hello/src/", source], &[bytes])?;
+        Ok(files)
+    }
+
+    /// Whether the input has the first form.
+    fn is_form(alloc: Global, files: &Files) -> Result<bool, Fail> {
+        Ok(FirstForm::of(alloc, files)?.is_some())
     }
 
     #[test]
     fn a_form_says_what_its_files_say(rt: HostRuntime) -> Result<(), Fail> {
         let alloc = rt.alloc();
-        let files = hello(alloc, "hello", "hello")?;
+        let files = hello(alloc, &[FRONT, WORDS, BACK], "hello.sh", "hi\n")?;
         let form = FirstForm::of(alloc, &files)?.ok_or("no form")?;
         assert_eq!(rt; form.package.as_slice(), b"hello".as_slice());
         assert_eq!(rt; form.mode, 0o755);
         assert_eq!(rt; form.source, Path::parse(alloc, b"hello.sh")?);
         assert_eq!(rt; form.place, Path::parse(alloc, b"usr/bin/hello")?);
         assert_eq!(rt; form.bytes.as_slice(), b"hi\n".as_slice());
+        Ok(())
+    }
+
+    #[test]
+    fn lines_that_install_are_told_from_others(rt: HostRuntime) -> Result<(), Fail> {
+        let alloc = rt.alloc();
+        let legal = [
+            WORDS,
+            "4711 $(@D)/hello.sh $(TARGET_DIR)/usr/bin/hello",
+            "0755 $(@D)/hello.sh $(TARGET_DIR)/1/2/3/4/5/6/7/8",
+        ];
+        for words in legal {
+            let files = hello(alloc, &[FRONT, words, BACK], "hello.sh", "hi\n")?;
+            assert!(rt; is_form(alloc, &files)?, "at {words:?}");
+        }
+        let others = [
+            "0o755 $(@D)/hello.sh $(TARGET_DIR)/usr/bin/hello",
+            "755 $(@D)/hello.sh $(TARGET_DIR)/usr/bin/hello",
+            "0888 $(@D)/hello.sh $(TARGET_DIR)/usr/bin/hello",
+            "0755 $(@D)/hello.sh  $(TARGET_DIR)/usr/bin/hello",
+            "0755 $(@D)/hello.sh $(TARGET_DIR)/usr/../hello",
+            "0755 $(@D)/hello.sh $(TARGET_DIR)/1/2/3/4/5/6/7/8/9",
+        ];
+        for words in others {
+            let files = hello(alloc, &[FRONT, words, BACK], "hello.sh", "hi\n")?;
+            assert!(rt; !is_form(alloc, &files)?, "at {words:?}");
+        }
         Ok(())
     }
 }

@@ -75,7 +75,7 @@ fn is_place_byte(byte: u8) -> bool
     ensures { result ≡ (is_lower byte || is_upper byte || is_digit byte || byte == 46 || byte == 95 || byte == 45) }
 {
     is_lower(byte)
-        || byte.is_ascii_uppercase()
+        || is_upper(byte)
         || is_digit(byte)
         || byte == b'.'
         || byte == b'_'
@@ -94,6 +94,13 @@ pub(crate) fn is_lower(byte: u8) -> bool
     ensures { result ≡ is_lower byte }
 {
     b'a' <= byte && byte <= b'z'
+}
+
+/// Whether a byte is an upper-case letter.
+fn is_upper(byte: u8) -> bool
+    ensures { result ≡ is_upper byte }
+{
+    b'A' <= byte && byte <= b'Z'
 }
 
 /// Whether a byte is a digit.

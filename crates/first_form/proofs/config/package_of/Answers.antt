@@ -4,8 +4,8 @@ use Rattle.first_form.specs.Form.{config_text}
 use Rattle.first_form.proofs.OneForm.{five_files, config_there, found_none, found_some, one_text, NamesPackage-form}
 use Rattle.first_form.proofs.config.package_of.Goals as goal
 
-pub returns-then-len-ne5 : goal.returns-then-len-ne5
-returns-then-len-ne5 c = λ form has. c.if-len-ne5.true (c.len.ensures.len ∙ five_files c.args.files.now form has)
+pub returns-then-len-ne-FILE_COUNT : goal.returns-then-len-ne-FILE_COUNT
+returns-then-len-ne-FILE_COUNT c = λ form has. c.if-len-ne-FILE_COUNT.true (c.len.ensures.len ∙ five_files c.args.files.now form has)
 
 pub returns-in_default : goal.returns-in_default
 returns-in_default c = λ form has. found_none c.in_ok-config.field-0 _ (config_text form.package) c.in_ok-config.ensures c.in_default.is (config_there c.args.files.now form has)
