@@ -128,6 +128,12 @@ mod tests {
     use super::*;
     use std::test::Fail;
 
+    /// Adds an entry at the path of these names.
+    fn add(alloc: Global, root: &mut Root, names: &[&str], entry: RootEntry) -> Result<(), Fail> {
+        root.items.push((at(alloc, names)?, entry))?;
+        Ok(())
+    }
+
     fn at(alloc: Global, names: &[&str]) -> Result<Path, Fail> {
         let mut path = Path::root(alloc);
         for name in names {
@@ -136,34 +142,32 @@ mod tests {
         Ok(path)
     }
 
+    fn file(alloc: Global, mode: u16, text: &str) -> Result<RootEntry, Fail> {
+        let bytes = Bytes::from_slice(alloc, text.as_bytes())?;
+        Ok(RootEntry::First { mode, bytes })
+    }
+
+    /// Adds an empty file, a link, and a folder with a file of 33 bytes under two names.
+    fn fill(alloc: Global, root: &mut Root) -> Result<(), Fail> {
+        add(alloc, root, &["a"], file(alloc, 0o4640, "")?)?;
+        let target = Bytes::from_slice(alloc, b"../a b")?;
+        add(alloc, root, &["b"], RootEntry::Link(target))?;
+        add(alloc, root, &["d"], RootEntry::Dir(0))?;
+        let text = "0123456789abcdefghijklmnopqrstuvw";
+        add(alloc, root, &["d", "f"], file(alloc, 0o7, text)?)?;
+        let first = at(alloc, &["d", "f"])?;
+        add(alloc, root, &["d", "g"], RootEntry::Same(first))
+    }
+
     #[test]
     fn each_kind_of_entry_has_its_lines(rt: HostRuntime) -> Result<(), Fail> {
         let alloc = rt.alloc();
-        let text = |bytes: &[u8]| Bytes::from_slice(alloc, bytes);
-        let items = vec![in alloc;
-            (Path::root(alloc), RootEntry::Dir(0o755)),
-            (
-                at(alloc, &["a"])?,
-                RootEntry::First {
-                    mode: 0o4640,
-                    bytes: text(b"")?
-                }
-            ),
-            (at(alloc, &["b"])?, RootEntry::Link(text(b"../a b")?)),
-            (at(alloc, &["d"])?, RootEntry::Dir(0)),
-            (
-                at(alloc, &["d", "f"])?,
-                RootEntry::First {
-                    mode: 0o7,
-                    bytes: text(b"0123456789abcdefghijklmnopqrstuvw")?
-                }
-            ),
-            (
-                at(alloc, &["d", "g"])?,
-                RootEntry::Same(at(alloc, &["d", "f"])?)
-            ),
-        ]?;
-        let image = write(alloc, &Root { items })?;
+        let mut root = Root {
+            items: Vec::new(alloc),
+        };
+        add(alloc, &mut root, &[], RootEntry::Dir(0o755))?;
+        fill(alloc, &mut root)?;
+        let image = write(alloc, &root)?;
         let wanted =
             "rootfs 1\nd 0755 /\nf 4640 0 /a\nl /b\n> ../a b\nd 0000 /d\nf 0007 33 /d/f\n= 303132333435363738396162636465666768696a6b6c6d6e6f70717273747576\n= 77\nh /d/g\n> /d/f\nend 6\n";
         assert_eq!(rt; image.as_slice(), wanted.as_bytes());
