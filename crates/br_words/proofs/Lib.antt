@@ -1,0 +1,3 @@
+pub mod OneAnswer
+pub mod Right
+pub mod Workers
