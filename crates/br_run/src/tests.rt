@@ -98,18 +98,19 @@ fn check_hello(
     Ok(())
 }
 
-/// Asserts that these words and files aren't built yet.
-fn check_not_yet(
+/// Asserts the report of a run that puts no image.
+fn check_report(
     rt: &impl Abort,
     alloc: Global,
     all: &[&str],
     files: FeedFiles,
+    wanted: (u8, &str),
 ) -> Result<(), Memory> {
     let words = words(alloc, all)?;
     let mut feed = MemoryFeed::new(files, call(alloc, 0)?);
     let mut sinks = sinks(alloc, 0, 1000)?;
     let status = run(alloc, &words.items, &mut feed, &mut sinks.0, &mut sinks.1);
-    assert_held(rt, status.number(), &sinks, (3, NOT_YET, ""));
+    assert_held(rt, status.number(), &sinks, (wanted.0, wanted.1, ""));
     Ok(())
 }
 
@@ -120,20 +121,55 @@ fn one_package_installs_one_file(rt: HostRuntime) -> Result<(), Fail> {
 }
 
 #[test]
-fn other_words_are_not_yet_run(rt: HostRuntime) -> Result<(), Fail> {
+fn other_commands_are_not_yet_run(rt: HostRuntime) -> Result<(), Fail> {
     let alloc = rt.alloc();
-    for all in [["config"].as_slice(), &["build", "-j"], &[]] {
-        check_not_yet(&rt, alloc, all, hello(alloc)?)?;
+    for all in [
+        ["plan"].as_slice(),
+        &["build", "-j", "2"],
+        &["build", "--trace"],
+    ] {
+        check_report(&rt, alloc, all, hello(alloc)?, (3, NOT_YET))?;
     }
     Ok(())
 }
 
 #[test]
-fn other_input_is_not_yet_built(rt: HostRuntime) -> Result<(), Fail> {
+fn words_that_are_no_command_are_named(rt: HostRuntime) -> Result<(), Fail> {
     let alloc = rt.alloc();
-    for texts in [[("Config.in", "")].as_slice(), &[("a", ""), ("a", "")]] {
-        check_not_yet(&rt, alloc, &["build"], files(alloc, texts)?)?;
-    }
+    let none = hello(alloc)?;
+    check_report(&rt, alloc, &[], none, (7, "fault words 0\nstatus 7\n"))?;
+    let jobs = hello(alloc)?;
+    check_report(
+        &rt,
+        alloc,
+        &["build", "-j"],
+        jobs,
+        (7, "fault words 2\nstatus 7\n"),
+    )?;
+    Ok(())
+}
+
+#[test]
+fn files_that_are_no_input_are_named(rt: HostRuntime) -> Result<(), Fail> {
+    let alloc = rt.alloc();
+    let other = files(alloc, &[("Config.in", "")])?;
+    check_report(&rt, alloc, &["build"], other, (3, NOT_YET))?;
+    let twice = files(alloc, &[("a/b", ""), ("a", "")])?;
+    check_report(
+        &rt,
+        alloc,
+        &["build"],
+        twice,
+        (3, "fault twice a\nstatus 3\n"),
+    )?;
+    let path = files(alloc, &[("a/b", ""), ("a/..", "")])?;
+    check_report(
+        &rt,
+        alloc,
+        &["build"],
+        path,
+        (3, "fault path 1\nstatus 3\n"),
+    )?;
     Ok(())
 }
 

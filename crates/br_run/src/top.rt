@@ -1,10 +1,10 @@
 //! The top call.
-ghost use Rattle.std.specs.Prelude.{◌≡◌, ◌≢◌, ◌<◌, ◌⊎◌, List, Some, codes};
+ghost use Rattle.std.specs.Prelude.{◌≡◌, ◌≢◌, ℕ, ◌<◌, ◌⊎◌, List, Some, codes};
 ghost use Rattle.feed_io.specs.declared.feed.FeedFile.{FeedFile};
 ghost use Rattle.feed_io.specs.Cause.{Rose};
 ghost use Rattle.feed_io.specs.Sink.{Appended};
 ghost use Rattle.br_run.specs.declared.answer.Answer.{Answer as AnAnswer};
-ghost use Rattle.br_run.specs.Answer.{build_words};
+ghost use Rattle.br_words.specs.Command.{IsMisfit};
 ghost use Rattle.br_run.specs.Out.{Gives, IsRun};
 ghost use Rattle.br_run.specs.Report.{fault_report};
 ghost use Rattle.br_run.specs.Sinks.{sinks, IsCutShort};
@@ -18,8 +18,8 @@ use std::alloc::Global;
 
 /// Runs the builder: reads the files of a feed, and puts an image and a report.
 ///
-/// The words are those behind the program's name. So far `build` is the one command, and input of the first form is
-/// built; to other words and other input the report says `fault not-yet`. The image is put first, and the report
+/// The words are those behind the program's name. So far `build` by one worker is the one command that is run, and input
+/// of the first form is built; to other commands and other input the report says `fault not-yet`. The image is put first, and the report
 /// behind it; both are made before the first put, so that after `NoMemory` the sinks are as before.
 pub fn run<F: Feed, O: Sink, I: Sink>(
     alloc: Global,
@@ -47,7 +47,8 @@ pub fn run<F: Feed, O: Sink, I: Sink>(
     ensures image_always { I.faults image.old < I.faults image.new → result ≡ Status.SinkFault }
     ensures cut_short { result ≡ Status.SinkFault → (answer : AnAnswer) × IsCutShort answer (sinks (I.held image.old) (I.held image.new) (O.held out.old) (O.held out.new)) }
     ensures no_image { result ≢ Status.Done → result ≢ Status.SinkFault → image.new ≡ image.old }
-    ensures words { words.now ≢ build_words → feed.new ≡ feed.old }
+    ensures words { (place : ℕ) → IsMisfit words.now place → (feed.new ≡ feed.old) × ((result ≡ Status.BadWords) ⊎ (result ≡ Status.SinkFault) ⊎ (result ≡ Status.NoMemory)) }
+    ensures bad_words { result ≡ Status.BadWords → (place : ℕ) × IsMisfit words.now place }
 {
     let Ok(answer) = answer_to(alloc, words, feed) else {
         return Status::NoMemory;

@@ -1,19 +1,14 @@
-use Rattle.std.proofs.Common.{◌≡◌, ◌⊎◌, inl, inr, refl, ap, rules}
-use Rattle.feed_io.specs.Cause.{Rose}
-use Rattle.br_run.specs.Answer.{IsAnswer, IsPossible, feed_failed, not_yet}
-use Rattle.br_run.proofs.Answers.{IfOk-same, IsFirstReadFault-IsReading, NotYet-fault}
+use Rattle.std.proofs.Common.{◌≡◌, subst}
+use Rattle.std.specs.Prelude.{IfOk}
+use Rattle.br_words.proofs.OneAnswer.{has_one_answer}
+use Rattle.br_run.specs.Answer.{bad_words}
+use Rattle.br_run.proofs.Answers.{IsAnswer-command}
 use Rattle.br_run.proofs.answer.answer_to.Goals as goal
 
-pub returns-in_default : goal.returns-in_default
-returns-in_default g c =
-    let answered = c.answer_not_yet-in_default.ensures in
-    record {
-      told = λ list left.
-          let first = IsFirstReadFault-IsReading list _ c.in_default.not-Feed c.in_default.not-Memory (c.in-Err.ensures.files list left) in
-          IfOk-same (λ answer. IsAnswer c.args.words.now list answer ⊎ (answer ≡ feed_failed)) not_yet _ answered (inl (NotYet-fault _ list _ first));
-      possible = IfOk-same IsPossible not_yet _ answered (inr (inl refl));
-      cause = IfOk-same (λ answer. answer ≡ feed_failed → Rose (g.F.Feed.faults c.args.feed.now) (g.F.Feed.faults c.read_all.new.feed)) not_yet _ answered
-          (λ same. let status = ap (λ a. a.status) same in absurd (cc status));
-      always = λ rose. let feed = c.in-Err.ensures.always rose in absurd (c.in_default.not-Feed (cc feed));
-      asked = search rules;
-    }
+pub returns-in-Ok-clause-told : goal.returns-in-Ok-clause-told
+returns-in-Ok-clause-told g c = λ list left. IsAnswer-command _ list _ _ c.in-Ok.ensures (c.answer_command.ensures.told list left)
+
+pub returns-in-At-clause-misfit : goal.returns-in-At-clause-misfit
+returns-in-At-clause-misfit g c = λ place misfit.
+    let found = rw c.in-At.is at c.in-Err.ensures in
+    subst (λ p. IfOk c.answer_bad_words.result (λ answer. answer ≡ bad_words p)) ((has_one_answer _).place _ _ found misfit) c.answer_bad_words.ensures
