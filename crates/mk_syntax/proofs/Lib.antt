@@ -1,0 +1,12 @@
+pub mod Trims
+pub mod JoinLaws
+pub mod Comments
+pub mod Matched
+pub mod RemainLaws
+pub mod RawLines
+pub mod Places
+pub mod Outer
+pub mod Accepted
+pub mod Shown
+pub mod Answers
+pub mod Onward

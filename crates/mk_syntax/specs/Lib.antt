@@ -1,0 +1,12 @@
+pub mod Blanks
+pub mod Lines
+pub mod Joins
+pub mod Brackets
+pub mod Comment
+pub mod Remains
+pub mod Assignment
+pub mod Condition
+pub mod Row
+pub mod Unfinished
+pub mod Reading
+pub mod Grammar
