@@ -1,0 +1,14 @@
+pub mod Bracket
+pub mod Words
+pub mod Lists
+pub mod Table
+pub mod Call
+pub mod Piece
+pub mod Vars
+pub mod Meaning
+pub mod Draft
+pub mod Value
+pub mod Failure
+pub mod Pass
+pub mod Answer
+pub mod Shown
