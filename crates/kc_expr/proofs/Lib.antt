@@ -1,0 +1,7 @@
+pub mod Chains
+pub mod Complete
+pub mod Conds
+pub mod Found
+pub mod Loops
+pub mod Sound
+pub mod Tables

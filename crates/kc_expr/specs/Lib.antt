@@ -1,0 +1,5 @@
+pub mod Grammar
+pub mod Holds
+pub mod Read
+pub mod ShownLeft
+pub mod Values

@@ -1,0 +1,4 @@
+pub mod Keyword
+pub mod Row
+pub mod ShownFront
+pub mod Table

@@ -1,0 +1,7 @@
+pub mod Complete
+pub mod LinesComplete
+pub mod LinesSound
+pub mod Pieces
+pub mod RawLines
+pub mod Sound
+pub mod Steps
