@@ -1,0 +1,9 @@
+pub mod Bytes
+pub mod Cuts
+pub mod Forms
+pub mod Last
+pub mod Quotes
+pub mod Readings
+pub mod Sets
+pub mod Texts
+pub mod Written

@@ -1,0 +1,6 @@
+use Rattle.std.proofs.Common.{◌≡◌, ◌++◌, drop}
+use Rattle.dot_config.specs.Writing.{escaped}
+use Rattle.dot_config.proofs.writer.put_escaped.Given as goal
+
+abbrev pub invariant-loop-byte : goal.invariant-loop-byte
+invariant-loop-byte l = l.text.items ++ escaped (drop l.byte-index l.value) ≡ l.fn.text.items ++ escaped l.value

@@ -1,0 +1,5 @@
+pub mod Line
+pub mod Reading
+pub mod SaidBy
+pub mod Symbols
+pub mod Writing

@@ -1,0 +1,49 @@
+//! Sets of symbols.
+ghost use Rattle.std.specs.Prelude.{◌≡◌, ◌||◌, not, ℕ, List, [], IfOk, OnOk};
+ghost use Rattle.kc_text.specs.Lines.{is_text};
+ghost use Rattle.dot_config.specs.Symbols.{has};
+
+use br_path::{Bytes, Memory};
+use indexmap::IndexSet;
+use std::alloc::Global;
+use std::marker::Model;
+
+/// A set of symbols. Asking and putting take constant time.
+#[derive(Drop)]
+pub struct Symbols {
+    names: IndexSet<Vec<u8>>,
+}
+
+impl Model for Symbols {
+    ghost use Rattle.std.specs.Prelude.{ℕ, List, map};
+
+    ghost Value = { List (List ℕ) };
+
+    ghost view = { λ s. map (λ name. name.items) s.names.keys };
+}
+
+impl Symbols {
+    /// No symbols.
+    pub fn new(alloc: Global) -> Symbols
+        ensures { result ≡ [] }
+    {
+        Symbols {
+            names: IndexSet::new(alloc),
+        }
+    }
+
+    /// Whether the symbol is one of these.
+    pub fn has(&self, symbol: &[u8]) -> bool
+        ensures { result ≡ has symbol.now self.now }
+    {
+        self.names.contains(symbol)
+    }
+
+    /// Puts a symbol in, and says whether it is new.
+    pub fn put(&mut self, symbol: Bytes) -> Result<bool, Memory>
+        ensures new { IfOk result (λ new. new ≡ not (has symbol self.old)) }
+        ensures put { OnOk result ((other : List ℕ) → has other self.new ≡ (is_text symbol other || has other self.old)) }
+    {
+        Ok(self.names.insert(symbol.items)?)
+    }
+}

@@ -1,0 +1,3 @@
+pub mod Menu
+pub mod Visible
+pub mod Wishes
