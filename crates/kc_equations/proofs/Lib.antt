@@ -1,0 +1,6 @@
+pub mod Agree
+pub mod ChoiceLaws
+pub mod OneAnswer
+pub mod Parts
+pub mod Runs
+pub mod Texts
