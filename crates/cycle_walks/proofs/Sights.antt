@@ -1,17 +1,29 @@
 -- What is seen from a node.
-use Rattle.std.proofs.Common.{ℕ, List, [], ◌∷◌, ◌++◌, ◌≡◌, ◌≢◌, ◌+◌, ◌<◌, ◌↔◌, length, get_or, set, refl, sym, ap, subst, ◌∙◌, Bool, true, false, ◌&&◌, not, cond, inl, inr, ◌⊎◌, arith, eqb, length-set, replicate, Contains}
-use Rattle.std.specs.List.{All, filter, range_with_len}
+use Rattle.std.proofs.Common.{ℕ, List, [], ◌∷◌, ◌++◌, ◌≡◌, ◌≢◌, ◌+◌, ◌<◌, ◌↔◌, length, get_or, set, refl, sym, ap, subst, ◌∙◌, Bool, true, false, not, cond, inl, inr, ◌⊎◌, arith, length-set, replicate, Contains}
+use Rattle.std.specs.List.{All, count_by}
 use Rattle.std.specs.List.Sorted.{IsStrictlyIncreasing}
-use Rattle.std.proofs.lemmas.List.Elements.{Contains-get_or, filter-append}
-use Rattle.std.proofs.lemmas.Bool.{false≢true, cases_lt, cases_eq, cases_Bool, and_parts, and_from, eqb-true}
-use Rattle.std.proofs.lemmas.List.{get_or-set_same, get_or-set_other, get_or_past, get_or-replicate, length-replicate, length_push, map-id, append-nil}
+use Rattle.std.proofs.lemmas.List.Elements.{Contains-get_or}
+use Rattle.std.proofs.lemmas.Bool.{false≢true, cases_lt, cases_eq, cases_Bool}
+use Rattle.std.proofs.lemmas.List.{get_or-set_same, get_or-set_other, get_or_past, get_or-replicate, length-replicate, length_push}
 use Rattle.std.proofs.lemmas.List.Sums.{sum_by-set}
 use Rattle.cycle_walks.specs.Graph.{Rows, row, is_in, names, IsGraph}
-use Rattle.cycle_walks.specs.Reach.{Sight, unseen, is_seen, see, see_all, left, seen_nodes, IsSight}
+use Rattle.cycle_walks.specs.Reach.{Sight, unseen, is_seen, see, see_all, seen_nodes}
 use Rattle.cycle_walks.specs.Walks.{IsWalk, Reaches}
 use Rattle.cycle_walks.proofs.Cycles.{Reaches-step}
 use Rattle.cycle_walks.proofs.Ranges.{below_rise, below_passes}
-use Rattle.cycle_walks.proofs.Members.{is_in-from, Contains-from, is_in-here, is_in-other, is_in-kept, is_in-push_here, is_in-push_other}
+use Rattle.cycle_walks.proofs.Members.{is_in-from, is_in-here, is_in-other, is_in-kept, is_in-push_here, is_in-push_other}
+
+-- how many rows are still to be looked at, at most
+abbrev pub left : Sight → ℕ
+left s = length s.todo + count_by not s.seen
+
+-- what is seen is reached, and what a node names is seen where its row was looked at
+pub record IsSight (rows : Rows) (start : ℕ) (s : Sight) : Type 0 where
+  pub sized : length s.seen ≡ length rows
+  pub reached : (node : ℕ) → is_seen s.seen node ≡ true → Reaches (names rows) start node
+  pub listed : (node : ℕ) → is_in s.todo node ≡ true → is_seen s.seen node ≡ true
+  pub first : (other : ℕ) → names rows start other ≡ true → is_seen s.seen other ≡ true
+  pub looked : (node other : ℕ) → is_seen s.seen node ≡ true → is_in s.todo node ≡ false → names rows node other ≡ true → is_seen s.seen other ≡ true
 
 -- a node that is seen is one
 seen_below : (seen : List Bool) (t : ℕ) → is_seen seen t ≡ true → t < length seen

@@ -1,7 +1,7 @@
 use Rattle.std.proofs.Common.{◌≡◌, [], subst, arith}
 use Rattle.std.proofs.lemmas.List.{nil_from_length}
-use Rattle.cycle_walks.specs.Reach.{shown, IsSight}
-use Rattle.cycle_walks.proofs.Sights.{look_first, look_more, look_falls, listed_below, all_seen}
+use Rattle.cycle_walks.specs.Reach.{shown}
+use Rattle.cycle_walks.proofs.Sights.{IsSight, look_first, look_more, look_falls, listed_below, all_seen}
 use Rattle.cycle_walks.proofs.reach.seen_from.Goals as goal
 
 pub loop-next-init : goal.loop-next-init

@@ -1,4 +1,5 @@
-use Rattle.cycle_walks.specs.Reach.{shown, left, IsSight}
+use Rattle.cycle_walks.specs.Reach.{shown}
+use Rattle.cycle_walks.proofs.Sights.{left, IsSight}
 use Rattle.cycle_walks.proofs.reach.seen_from.Given as goal
 
 abbrev pub invariant-loop-next : goal.invariant-loop-next
