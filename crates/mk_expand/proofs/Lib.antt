@@ -12,6 +12,7 @@ pub mod Replacing
 pub mod Puts
 pub mod Trims
 pub mod Divided
+pub mod Commas
 pub mod Walking
 pub mod Rows
 pub mod Sorts

@@ -1,11 +1,13 @@
 -- A text in which another is exchanged: up to the first place where it stands, and from there.
-use Rattle.std.proofs.Common.{◌≡◌, ℕ, zero, suc, ◌+◌, ◌-◌, ◌<◌, ◌≤◌, Bool, true, false, cond, ◌&&◌, List, [], ◌∷◌, ◌++◌, length, take, drop, refl, ap, sym, ◌∙◌, arith, append_assoc}
+use Rattle.std.proofs.Common.{◌≡◌, ℕ, zero, suc, ◌+◌, ◌-◌, ◌<◌, ◌≤◌, Bool, true, false, cond, ◌&&◌, List, [], ◌∷◌, ◌++◌, length, take, drop, refl, ap, sym, ◌∙◌, arith, append_assoc, subst, length-append, length-drop}
+use Rattle.std.proofs.Math.Seq.{take-append_seam}
 use Rattle.std.proofs.lemmas.Bool.Decides.{nat_tests}
 use Rattle.std.proofs.lemmas.List.{drop-drop}
 use Rattle.memchr.specs.Find.{Nowhere, OccursAt, occurs_at}
-use Rattle.memchr.proofs.lemmas.MatchLemmas.{occurs_at-true, OccursAt-true}
+use Rattle.memchr.proofs.lemmas.MatchLemmas.{occurs_at-true, OccursAt-true, OccursAt-from_part, OccursAt-split}
 use Rattle.mk_expand.specs.Words.{is_filled}
 use Rattle.mk_expand.specs.Lists.{replaced}
+use Rattle.mk_expand.specs.Laws.{IsReplaced, end, there, other}
 
 replaced_empty : (to text : List ℕ) → replaced [] to 0 text ≡ text
 replaced_empty to [] = refl
@@ -80,3 +82,26 @@ module _ (from to : List ℕ) where
         replaced_first k text never o
         ∙ (ap (λ t. take k text ++ (to ++ replaced from to 0 t)) rest
         ∙ (ap (λ t. t ++ (to ++ replaced from to 0 after)) (sym is_front) ∙ sym (append_assoc front to (replaced from to 0 after))))
+
+    pub replaced_law : (fuel : ℕ) (text : List ℕ) → length text ≤ fuel → IsReplaced from to text (replaced from to 0 text)
+    replaced_law fuel [] low = end
+    replaced_law zero (b ∷ text) low = absurd (omega arith)
+    replaced_law (suc fuel) (b ∷ text) low =
+        elim (occurs_at (b ∷ text) from 0) as (λ q. occurs_at (b ∷ text) from 0 ≡ q → IsReplaced from to (b ∷ text) (replaced from to 0 (b ∷ text))) [
+          | true ↦ λ q.
+              let o = OccursAt-true (b ∷ text) from 0 q in
+              let rest = drop (length from) (b ∷ text) in
+              let split : b ∷ text ≡ from ++ rest = OccursAt-split (b ∷ text) from 0 o ∙ ap (λ n. from ++ drop n (b ∷ text)) (let e : 0 + length from ≡ length from = omega arith in e) in
+              let short : length rest ≤ fuel = omega (arith, length-drop (length from) (b ∷ text)) in
+              let law : IsReplaced from to (from ++ rest) (to ++ replaced from to 0 rest) = there (replaced_law fuel rest short) in
+              subst (λ out. IsReplaced from to (b ∷ text) out) (sym (here b text o)) (subst (λ t. IsReplaced from to t (to ++ replaced from to 0 rest)) (sym split) law)
+          | false ↦ λ q.
+              let never : OccursAt (b ∷ text) from 0 → ⊥ = λ o. let e = occurs_at-true (b ∷ text) from 0 o in cc in
+              subst (λ out. IsReplaced from to (b ∷ text) out) (sym (not_here b text never))
+              (other (λ rest e. never (stands b text rest e)) (replaced_law fuel text (omega arith)))
+        ] refl
+      where
+        stands : (b : ℕ) (text rest : List ℕ) → b ∷ text ≡ from ++ rest → OccursAt (b ∷ text) from 0
+        stands b text rest e =
+            let fits : length (b ∷ text) ≡ length from + length rest = ap length e ∙ length-append from rest in
+            OccursAt-from_part (b ∷ text) from 0 (omega arith) (ap (take (length from)) e ∙ take-append_seam from rest)

@@ -3,6 +3,7 @@ pub mod Words
 pub mod Lists
 pub mod Table
 pub mod Call
+pub mod Laws
 pub mod Piece
 pub mod Vars
 pub mod Meaning

@@ -4,6 +4,7 @@
 ghost use Rattle.std.specs.Prelude.{◌≡◌, ℕ, List, [], ◌++◌, ◌==◌, ◌<◌, not, map, filter, take, length, IfOk};
 ghost use Rattle.mk_expand.specs.Words.{is_filled, words, row};
 ghost use Rattle.mk_expand.specs.Lists.{replaced, is_matched, exchanged, sorted_with, IsSortOf, argument, applied};
+ghost use Rattle.mk_expand.specs.Laws.{IsReplaced};
 ghost use Rattle.mk_expand.specs.Draft.{put, IsRun};
 ghost use Rattle.mk_expand.specs.Shown.{shown_spelling};
 
@@ -254,6 +255,12 @@ fn put_replaced(from: &[u8], to: &[u8], text: &[u8], out: &mut Draft) -> Result<
     }
     put_each_replaced(from, to, text, out)
 }
+
+/// `subst` reads a text from the left: where what it looks for stands, it puts the other text and goes on behind it, and
+/// every other byte stays.
+pub fn subst_replaces()
+    ensures { (from to text : List ℕ) → 0 < length from → IsReplaced from to text (replaced from to 0 text) }
+{}
 
 fn put_each_replaced(
     from: &[u8],

@@ -1,6 +1,8 @@
 //! The brackets of references.
-ghost use Rattle.std.specs.Prelude.{◌≡◌, ◌<◌, length, IfSome};
+ghost use Rattle.std.specs.Prelude.{◌≡◌, ℕ, ◌<◌, List, length, IfSome};
+ghost use Rattle.mk_expand.specs.declared.bracket.Bracket.{Bracket as Brackets};
 ghost use Rattle.mk_expand.specs.Bracket.{opening, closing, close_of, comma_of};
+ghost use Rattle.mk_expand.specs.Laws.{IsFirstComma};
 
 /// The brackets of a reference, of which each kind is counted by itself.
 #[derive(Clone, Copy)]
@@ -65,3 +67,8 @@ impl Bracket {
         None
     }
 }
+
+/// The comma that divides a text is the first before which each bracket that was opened is closed.
+pub fn first_comma_divides()
+    ensures { (kind : Brackets) (text : List ℕ) → IsFirstComma kind text (comma_of kind 0 0 text) }
+{}

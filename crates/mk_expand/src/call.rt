@@ -1,9 +1,11 @@
 //! What stands inside a reference.
-ghost use Rattle.std.specs.Prelude.{◌≡◌, ◌<◌, [], map, length, None, IfOk, IfSome, if◌then◌else◌};
+ghost use Rattle.std.specs.Prelude.{◌≡◌, ℕ, ◌<◌, List, [], map, length, Option, None, IfOk, IfSome, if◌then◌else◌};
+ghost use Rattle.mk_expand.specs.declared.bracket.Bracket.{Bracket as Brackets};
 ghost use Rattle.mk_expand.specs.Bracket.{comma_of};
 ghost use Rattle.mk_expand.specs.Lists.{argument};
 ghost use Rattle.mk_expand.specs.Table.{entry, may_divide};
 ghost use Rattle.mk_expand.specs.Call.{divided, call_of, checked_call, inside_of, refusal, IsAllowed};
+ghost use Rattle.mk_expand.specs.Laws.{AreArguments};
 ghost use Rattle.mk_expand.specs.Shown.{shown_call};
 
 use crate::bracket::Bracket;
@@ -108,6 +110,12 @@ fn divide<'a>(
     args.push(rest)?;
     Ok(args)
 }
+
+/// The arguments of a call, joined by commas, are the text that they were read from. Each of them ends at the first comma
+/// outside brackets, but for the last, which holds what is left where no more commas may divide or none does.
+pub fn arguments_divide()
+    ensures { (kind : Brackets) (most : Option ℕ) (text : List ℕ) → AreArguments kind most 0 text (divided kind most 0 0 [] text) }
+{}
 
 // The comma that divides a text behind so many arguments.
 fn next_comma(kind: Bracket, most: Option<usize>, count: usize, text: &[u8]) -> Option<usize>

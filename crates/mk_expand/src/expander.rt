@@ -58,9 +58,10 @@ fn expand_within(
     ensures length { IfOk result (λ bytes. length bytes ≤ cost_limit) }
     ensures fault { IfErr result (λ fault. fault ≢ no_memory → IsFault (found vars.now) depth (outside locals.now) text.now fault) }
 {
-    let mut scope = Scope::new(alloc, locals)?;
+    let scope = Scope::new(alloc, locals)?;
+    let mut expander = Expander { alloc, vars, scope };
     let mut out = Draft::new(alloc);
-    expand_text(alloc, vars, &mut scope, depth, text, &mut out)?;
+    expander.text(depth, text, &mut out)?;
     Ok(out.into_bytes())
 }
 
@@ -70,69 +71,316 @@ pub fn one_answer()
     ensures { (vars : Environment) (depth : ℕ) (scope : ScopeValue) (text : List ℕ) → OneAnswer vars depth scope text }
 {}
 
-// A text, piece by piece, with so many references still allowed in one another.
-#[cycle(expansion)]
-#[tactic(auto, using(crate::proofs::Walking::texts))]
-fn expand_text(
+// The variables, and what holds at a place of the expansion. In each method `depth` is how many references may still stand
+// in one another there.
+#[derive(Drop)]
+struct Expander<'a> {
     alloc: Global,
-    vars: &Vars,
-    scope: &mut Scope,
-    depth: u32,
-    text: &[u8],
-    out: &mut Draft,
-) -> Result<(), ExpandFault>
-    ensures run { IsRun (text_run (found vars.now) depth scope.old text.now out.old) result out.new }
-    ensures scope { OnOk result (scope.new ≡ scope.old) }
-{
-    let mut rest = text;
-    while let Some((first, tail)) = rest.split_first() {
-        let (piece, behind) = first_piece(*first, tail);
-        expand_piece(alloc, vars, scope, depth, piece, out)?;
-        rest = behind;
-    }
-    Ok(())
+    vars: &'a Vars,
+    scope: Scope,
 }
 
-#[cycle(expansion)]
-fn expand_piece(
-    alloc: Global,
-    vars: &Vars,
-    scope: &mut Scope,
-    depth: u32,
-    piece: Piece<'_>,
-    out: &mut Draft,
-) -> Result<(), ExpandFault>
-    ensures run { IsRun (piece_run (inside_run (found vars.now) depth scope.old) (shown_piece piece.entry) out.old) result out.new }
-    ensures scope { OnOk result (scope.new ≡ scope.old) }
-{
-    match piece {
-        Piece::Byte(byte) => out.put(&[byte]),
-        Piece::Stray => Err(ExpandFault::Unsupported(Bytes {
-            items: Vec::new(alloc),
-        })),
-        Piece::Unclosed => Err(ExpandFault::BadCall),
-        Piece::Reference(kind, text) => expand_inside(alloc, vars, scope, depth, kind, text, out),
+impl<'a> Expander<'a> {
+    // A text, piece by piece.
+    #[cycle(expansion)]
+    fn text(&mut self, depth: u32, text: &[u8], out: &mut Draft) -> Result<(), ExpandFault>
+        ensures run { IsRun (text_run (found self.old.vars.now) depth self.old.scope text.now out.old) result out.new }
+        ensures kept { OnOk result (self.new ≡ self.old) }
+    {
+        let mut rest = text;
+        while let Some((first, tail)) = rest.split_first() {
+            let (piece, behind) = first_piece(*first, tail);
+            self.piece(depth, piece, out)?;
+            rest = behind;
+        }
+        Ok(())
     }
-}
 
-#[cycle(expansion)]
-fn expand_inside(
-    alloc: Global,
-    vars: &Vars,
-    scope: &mut Scope,
-    depth: u32,
-    kind: Bracket,
-    text: &[u8],
-    out: &mut Draft,
-) -> Result<(), ExpandFault>
-    ensures run { IsRun (inside_run (found vars.now) depth scope.old kind text.now out.old) result out.new }
-    ensures scope { OnOk result (scope.new ≡ scope.old) }
-{
-    let inside = read_inside(alloc, kind, text)?;
-    if depth == 0 {
-        return Err(too_deep(&inside));
+    #[cycle(expansion)]
+    fn piece(&mut self, depth: u32, piece: Piece<'_>, out: &mut Draft) -> Result<(), ExpandFault>
+        ensures run { IsRun (piece_run (inside_run (found self.old.vars.now) depth self.old.scope) (shown_piece piece.entry) out.old) result out.new }
+        ensures kept { OnOk result (self.new ≡ self.old) }
+    {
+        match piece {
+            Piece::Byte(byte) => out.put(&[byte]),
+            Piece::Stray => Err(ExpandFault::Unsupported(Bytes {
+                items: Vec::new(self.alloc),
+            })),
+            Piece::Unclosed => Err(ExpandFault::BadCall),
+            Piece::Reference(kind, text) => self.inside(depth, kind, text, out),
+        }
     }
-    expand_called(alloc, vars, scope, depth - 1, inside, text, out)
+
+    #[cycle(expansion)]
+    fn inside(
+        &mut self,
+        depth: u32,
+        kind: Bracket,
+        text: &[u8],
+        out: &mut Draft,
+    ) -> Result<(), ExpandFault>
+        ensures run { IsRun (inside_run (found self.old.vars.now) depth self.old.scope kind text.now out.old) result out.new }
+        ensures kept { OnOk result (self.new ≡ self.old) }
+    {
+        let inside = read_inside(self.alloc, kind, text)?;
+        if depth == 0 {
+            return Err(too_deep(&inside));
+        }
+        self.called(depth - 1, inside, text, out)
+    }
+
+    #[cycle(expansion)]
+    fn called(
+        &mut self,
+        depth: u32,
+        inside: Called<'_>,
+        text: &[u8],
+        out: &mut Draft,
+    ) -> Result<(), ExpandFault>
+        ensures run { IsRun (called (found self.old.vars.now) (text_run (found self.old.vars.now) depth) self.old.scope (shown_call inside.entry) text.now out.old) result out.new }
+        ensures kept { OnOk result (self.new ≡ self.old) }
+    {
+        match inside {
+            Called::Name => self.name(depth, text, out),
+            Called::Short => Err(ExpandFault::BadCall),
+            Called::Choice(test, yes, no) => self.choice(depth, test, yes, no, out),
+            Called::Loop(variable, list, body) => self.each_word(depth, variable, list, body, out),
+            Called::Strict(function, args) => self.strict(depth, function, &args, out),
+        }
+    }
+
+    // A variable, whose name is the value of a text.
+    #[cycle(expansion)]
+    #[tactic(auto, using(crate::proofs::Walking::name_steps))]
+    fn name(&mut self, depth: u32, text: &[u8], out: &mut Draft) -> Result<(), ExpandFault>
+        ensures run { IsRun (by_name (found self.old.vars.now) (text_run (found self.old.vars.now) depth) self.old.scope text.now out.old) result out.new }
+        ensures kept { OnOk result (self.new ≡ self.old) }
+    {
+        out.pay()?;
+        let name = self.apart(depth, text, out)?;
+        self.named(depth, name, out)
+    }
+
+    // A text apart, whose cost comes to the draft.
+    #[cycle(expansion)]
+    #[tactic(auto, using(crate::proofs::Walking::apart_steps))]
+    fn apart(&mut self, depth: u32, text: &[u8], out: &mut Draft) -> Result<Bytes, ExpandFault>
+        ensures run { IsGiven (apart (found self.old.vars.now) (text_run (found self.old.vars.now) depth) self.old.scope text.now out.old) result out.new }
+        ensures kept { OnOk result (self.new ≡ self.old) }
+    {
+        let mut draft = out.apart(self.alloc);
+        self.text(depth, text, &mut draft)?;
+        Ok(out.take(draft))
+    }
+
+    #[cycle(expansion)]
+    fn named(&mut self, depth: u32, name: Bytes, out: &mut Draft) -> Result<(), ExpandFault>
+        ensures run { IsRun (named (found self.old.vars.now) (text_run (found self.old.vars.now) depth) self.old.scope name out.old) result out.new }
+        ensures kept { OnOk result (self.new ≡ self.old) }
+    {
+        if is_bad_name(name.as_slice()) {
+            return Err(ExpandFault::Unsupported(name));
+        }
+        if let Some(bytes) = self.scope.locals.find(name.as_slice()) {
+            return out.put(bytes);
+        }
+        let Some(variable) = self.vars.find(name.as_slice()) else {
+            return Ok(());
+        };
+        if variable.simple {
+            return out.put(variable.text.as_slice());
+        }
+        if self.scope.is_active(name.as_slice()) {
+            return Err(ExpandFault::SelfReference(name));
+        }
+        self.later(depth, name, variable.text.as_slice(), out)
+    }
+
+    // The text of a variable.
+    #[cycle(expansion)]
+    fn later(
+        &mut self,
+        depth: u32,
+        name: Bytes,
+        text: &[u8],
+        out: &mut Draft,
+    ) -> Result<(), ExpandFault>
+        ensures run { IsRun (text_run (found self.old.vars.now) depth (with_active self.old.scope name) text.now out.old) result out.new }
+        ensures kept { OnOk result (self.new ≡ self.old) }
+    {
+        self.scope.enter_variable(name)?;
+        self.text(depth, text, out)?;
+        self.scope.leave_variable();
+        Ok(())
+    }
+
+    #[cycle(expansion)]
+    #[tactic(auto, using(crate::proofs::Walking::strict_steps))]
+    fn strict(
+        &mut self,
+        depth: u32,
+        function: Function,
+        args: &[&[u8]],
+        out: &mut Draft,
+    ) -> Result<(), ExpandFault>
+        ensures run { IsRun (strict_call (found self.old.vars.now) (text_run (found self.old.vars.now) depth) self.old.scope function (map (λ arg. arg.now) args.now) out.old) result out.new }
+        ensures kept { OnOk result (self.new ≡ self.old) }
+    {
+        out.pay()?;
+        let values = self.args(depth, function, args, out)?;
+        put_applied(self.alloc, function, &values, out)
+    }
+
+    #[cycle(expansion)]
+    #[tactic(auto, using(crate::proofs::Walking::values_steps))]
+    fn args(
+        &mut self,
+        depth: u32,
+        function: Function,
+        args: &[&[u8]],
+        out: &mut Draft,
+    ) -> Result<Names, ExpandFault>
+        ensures run { IsGiven (all_values (found self.old.vars.now) (text_run (found self.old.vars.now) depth) self.old.scope function [] (map (λ arg. arg.now) args.now) out.old) result out.new }
+        ensures kept { OnOk result (self.new ≡ self.old) }
+    {
+        let mut values = no_names(self.alloc);
+        for (place, arg) in args.iter().enumerate() {
+            let behind = args.len() - place - 1;
+            self.arg(depth, function, behind, arg, &mut values, out)?;
+        }
+        Ok(values)
+    }
+
+    // One more value, with so many arguments behind it.
+    #[cycle(expansion)]
+    #[tactic(auto, using(crate::proofs::Walking::one_steps))]
+    fn arg(
+        &mut self,
+        depth: u32,
+        function: Function,
+        behind: usize,
+        text: &[u8],
+        values: &mut Names,
+        out: &mut Draft,
+    ) -> Result<(), ExpandFault>
+        ensures run { IsAdded (one_value (found self.old.vars.now) (text_run (found self.old.vars.now) depth) self.old.scope function behind values.old text.now out.old) result values.new out.new }
+        ensures kept { OnOk result (self.new ≡ self.old) }
+    {
+        let value = self.apart(depth, text, out)?;
+        let count = values.items.len();
+        check_argument(self.alloc, function, count, value.as_slice(), behind)?;
+        values.items.push(value)?;
+        Ok(())
+    }
+
+    #[cycle(expansion)]
+    #[tactic(auto, using(crate::proofs::Walking::choice_steps))]
+    fn choice(
+        &mut self,
+        depth: u32,
+        test: &[u8],
+        yes: &[u8],
+        no: &[u8],
+        out: &mut Draft,
+    ) -> Result<(), ExpandFault>
+        ensures run { IsRun (choice_call (found self.old.vars.now) (text_run (found self.old.vars.now) depth) self.old.scope test.now yes.now no.now out.old) result out.new }
+        ensures kept { OnOk result (self.new ≡ self.old) }
+    {
+        out.pay()?;
+        let value = self.apart(depth, test, out)?;
+        self.branch(depth, chosen(value.as_slice(), yes, no), out)
+    }
+
+    #[cycle(expansion)]
+    #[tactic(auto, using(crate::proofs::Walking::branch_steps))]
+    fn branch(&mut self, depth: u32, text: &[u8], out: &mut Draft) -> Result<(), ExpandFault>
+        ensures run { IsRun (branch (found self.old.vars.now) (text_run (found self.old.vars.now) depth) self.old.scope text.now out.old) result out.new }
+        ensures kept { OnOk result (self.new ≡ self.old) }
+    {
+        let mut draft = out.apart(self.alloc);
+        self.text(depth, text, &mut draft)?;
+        out.put_apart(draft)
+    }
+
+    #[cycle(expansion)]
+    #[tactic(auto, using(crate::proofs::Walking::loop_steps))]
+    fn each_word(
+        &mut self,
+        depth: u32,
+        variable: &[u8],
+        list: &[u8],
+        body: &[u8],
+        out: &mut Draft,
+    ) -> Result<(), ExpandFault>
+        ensures run { IsRun (loop_call (found self.old.vars.now) (text_run (found self.old.vars.now) depth) self.old.scope variable.now list.now body.now out.old) result out.new }
+        ensures kept { OnOk result (self.new ≡ self.old) }
+    {
+        out.pay()?;
+        let name = self.apart(depth, variable, out)?;
+        let items = self.apart(depth, list, out)?;
+        self.row(depth, name.as_slice(), body, items.as_slice(), out)
+    }
+
+    // A body for each word of a list, in a row.
+    #[cycle(expansion)]
+    #[tactic(auto, using(crate::proofs::Walking::looped_steps))]
+    fn row(
+        &mut self,
+        depth: u32,
+        name: &[u8],
+        body: &[u8],
+        items: &[u8],
+        out: &mut Draft,
+    ) -> Result<(), ExpandFault>
+        ensures run { IsRun (looped (found self.old.vars.now) (text_run (found self.old.vars.now) depth) self.old.scope name.now body.now items.now out.old) result out.new }
+        ensures kept { OnOk result (self.new ≡ self.old) }
+    {
+        let words = words(self.alloc, items)?;
+        let mut draft = out.apart(self.alloc);
+        self.each(depth, name, body, &words, &mut draft)?;
+        out.put_apart(draft)
+    }
+
+    #[cycle(expansion)]
+    #[tactic(auto, using(crate::proofs::Walking::each_steps))]
+    fn each(
+        &mut self,
+        depth: u32,
+        name: &[u8],
+        body: &[u8],
+        words: &[&[u8]],
+        out: &mut Draft,
+    ) -> Result<(), ExpandFault>
+        ensures run { IsRun (each (found self.old.vars.now) (text_run (found self.old.vars.now) depth) self.old.scope name.now body.now [] (map (λ word. word.now) words.now) out.old) result out.new }
+        ensures kept { OnOk result (self.new ≡ self.old) }
+    {
+        let mut gap: &[u8] = b"";
+        for word in words {
+            out.put_paid(gap)?;
+            self.one(depth, name, body, word, out)?;
+            gap = b" ";
+        }
+        Ok(())
+    }
+
+    // A body in which a name stands for a word.
+    #[cycle(expansion)]
+    fn one(
+        &mut self,
+        depth: u32,
+        name: &[u8],
+        body: &[u8],
+        word: &[u8],
+        out: &mut Draft,
+    ) -> Result<(), ExpandFault>
+        ensures run { IsRun (text_run (found self.old.vars.now) depth (with_local self.old.scope name.now word.now) body.now out.old) result out.new }
+        ensures kept { OnOk result (self.new ≡ self.old) }
+    {
+        self.scope.enter_word(self.alloc, name, word)?;
+        self.text(depth, body, out)?;
+        self.scope.leave_word();
+        Ok(())
+    }
 }
 
 // A call with too few arguments is at fault before its depth is.
@@ -145,354 +393,8 @@ fn too_deep(inside: &Called<'_>) -> ExpandFault
     }
 }
 
-#[cycle(expansion)]
-fn expand_called(
-    alloc: Global,
-    vars: &Vars,
-    scope: &mut Scope,
-    depth: u32,
-    inside: Called<'_>,
-    text: &[u8],
-    out: &mut Draft,
-) -> Result<(), ExpandFault>
-    ensures run { IsRun (called (found vars.now) (text_run (found vars.now) depth) scope.old (shown_call inside.entry) text.now out.old) result out.new }
-    ensures scope { OnOk result (scope.new ≡ scope.old) }
-{
-    match inside {
-        Called::Name => expand_name(alloc, vars, scope, depth, text, out),
-        Called::Short => Err(ExpandFault::BadCall),
-        Called::Choice(test, yes, no) => expand_choice(
-            alloc, vars, scope, depth, test, yes, no, out,
-        ),
-        Called::Loop(variable, list, body) => expand_loop(
-            alloc, vars, scope, depth, variable, list, body, out,
-        ),
-        Called::Strict(function, args) => expand_strict(
-            alloc, vars, scope, depth, function, &args, out,
-        ),
-    }
-}
-
-// A variable, whose name is the value of a text.
-#[cycle(expansion)]
-#[tactic(auto, using(crate::proofs::Walking::name_steps))]
-fn expand_name(
-    alloc: Global,
-    vars: &Vars,
-    scope: &mut Scope,
-    depth: u32,
-    text: &[u8],
-    out: &mut Draft,
-) -> Result<(), ExpandFault>
-    ensures run { IsRun (by_name (found vars.now) (text_run (found vars.now) depth) scope.old text.now out.old) result out.new }
-    ensures scope { OnOk result (scope.new ≡ scope.old) }
-{
-    out.pay()?;
-    let name = expand_apart(alloc, vars, scope, depth, text, out)?;
-    expand_named(alloc, vars, scope, depth, name, out)
-}
-
-// A text apart, whose cost comes to the draft.
-#[cycle(expansion)]
-#[tactic(auto, using(crate::proofs::Walking::apart_steps))]
-fn expand_apart(
-    alloc: Global,
-    vars: &Vars,
-    scope: &mut Scope,
-    depth: u32,
-    text: &[u8],
-    out: &mut Draft,
-) -> Result<Bytes, ExpandFault>
-    ensures run { IsGiven (apart (found vars.now) (text_run (found vars.now) depth) scope.old text.now out.old) result out.new }
-    ensures scope { OnOk result (scope.new ≡ scope.old) }
-{
-    let mut draft = out.apart(alloc);
-    expand_text(alloc, vars, scope, depth, text, &mut draft)?;
-    Ok(out.take(draft))
-}
-
-#[cycle(expansion)]
-fn expand_named(
-    alloc: Global,
-    vars: &Vars,
-    scope: &mut Scope,
-    depth: u32,
-    name: Bytes,
-    out: &mut Draft,
-) -> Result<(), ExpandFault>
-    ensures run { IsRun (named (found vars.now) (text_run (found vars.now) depth) scope.old name out.old) result out.new }
-    ensures scope { OnOk result (scope.new ≡ scope.old) }
-{
-    if is_bad_name(name.as_slice()) {
-        return Err(ExpandFault::Unsupported(name));
-    }
-    if let Some(bytes) = scope.locals.find(name.as_slice()) {
-        return out.put(bytes);
-    }
-    let Some(variable) = vars.find(name.as_slice()) else {
-        return Ok(());
-    };
-    if variable.simple {
-        return out.put(variable.text.as_slice());
-    }
-    if scope.is_active(name.as_slice()) {
-        return Err(ExpandFault::SelfReference(name));
-    }
-    expand_later(
-        alloc,
-        vars,
-        scope,
-        depth,
-        name,
-        variable.text.as_slice(),
-        out,
-    )
-}
-
-// The text of a variable.
-#[cycle(expansion)]
-fn expand_later(
-    alloc: Global,
-    vars: &Vars,
-    scope: &mut Scope,
-    depth: u32,
-    name: Bytes,
-    text: &[u8],
-    out: &mut Draft,
-) -> Result<(), ExpandFault>
-    ensures run { IsRun (text_run (found vars.now) depth (with_active scope.old name) text.now out.old) result out.new }
-    ensures scope { OnOk result (scope.new ≡ scope.old) }
-{
-    scope.enter_variable(name)?;
-    expand_text(alloc, vars, scope, depth, text, out)?;
-    scope.leave_variable();
-    Ok(())
-}
-
-#[cycle(expansion)]
-#[tactic(auto, using(crate::proofs::Walking::strict_steps))]
-fn expand_strict(
-    alloc: Global,
-    vars: &Vars,
-    scope: &mut Scope,
-    depth: u32,
-    function: Function,
-    args: &[&[u8]],
-    out: &mut Draft,
-) -> Result<(), ExpandFault>
-    ensures run { IsRun (strict_call (found vars.now) (text_run (found vars.now) depth) scope.old function (map (λ arg. arg.now) args.now) out.old) result out.new }
-    ensures scope { OnOk result (scope.new ≡ scope.old) }
-{
-    out.pay()?;
-    let values = expand_args(alloc, vars, scope, depth, function, args, out)?;
-    put_applied(alloc, function, &values, out)
-}
-
-#[cycle(expansion)]
-#[tactic(auto, using(crate::proofs::Walking::values_steps))]
-fn expand_args(
-    alloc: Global,
-    vars: &Vars,
-    scope: &mut Scope,
-    depth: u32,
-    function: Function,
-    args: &[&[u8]],
-    out: &mut Draft,
-) -> Result<Names, ExpandFault>
-    ensures run { IsGiven (all_values (found vars.now) (text_run (found vars.now) depth) scope.old function [] (map (λ arg. arg.now) args.now) out.old) result out.new }
-    ensures scope { OnOk result (scope.new ≡ scope.old) }
-{
-    let mut values = no_names(alloc);
-    for (place, arg) in args.iter().enumerate() {
-        let behind = args.len() - place - 1;
-        expand_arg(
-            alloc,
-            vars,
-            scope,
-            depth,
-            function,
-            behind,
-            arg,
-            &mut values,
-            out,
-        )?;
-    }
-    Ok(values)
-}
-
-// One more value, with so many arguments behind it.
-#[cycle(expansion)]
-#[tactic(auto, using(crate::proofs::Walking::one_steps))]
-fn expand_arg(
-    alloc: Global,
-    vars: &Vars,
-    scope: &mut Scope,
-    depth: u32,
-    function: Function,
-    behind: usize,
-    text: &[u8],
-    values: &mut Names,
-    out: &mut Draft,
-) -> Result<(), ExpandFault>
-    ensures run { IsAdded (one_value (found vars.now) (text_run (found vars.now) depth) scope.old function behind values.old text.now out.old) result values.new out.new }
-    ensures scope { OnOk result (scope.new ≡ scope.old) }
-{
-    let value = expand_apart(alloc, vars, scope, depth, text, out)?;
-    check_argument(
-        alloc,
-        function,
-        values.items.len(),
-        value.as_slice(),
-        behind,
-    )?;
-    values.items.push(value)?;
-    Ok(())
-}
-
-#[cycle(expansion)]
-#[tactic(auto, using(crate::proofs::Walking::choice_steps))]
-fn expand_choice(
-    alloc: Global,
-    vars: &Vars,
-    scope: &mut Scope,
-    depth: u32,
-    test: &[u8],
-    yes: &[u8],
-    no: &[u8],
-    out: &mut Draft,
-) -> Result<(), ExpandFault>
-    ensures run { IsRun (choice_call (found vars.now) (text_run (found vars.now) depth) scope.old test.now yes.now no.now out.old) result out.new }
-    ensures scope { OnOk result (scope.new ≡ scope.old) }
-{
-    out.pay()?;
-    let value = expand_apart(alloc, vars, scope, depth, test, out)?;
-    expand_branch(
-        alloc,
-        vars,
-        scope,
-        depth,
-        chosen(value.as_slice(), yes, no),
-        out,
-    )
-}
-
 fn chosen<'a>(value: &[u8], yes: &'a [u8], no: &'a [u8]) -> &'a [u8]
     ensures { result.now ≡ chosen value.now yes.now no.now }
 {
     if value.is_empty() { no } else { yes }
-}
-
-#[cycle(expansion)]
-#[tactic(auto, using(crate::proofs::Walking::branch_steps))]
-fn expand_branch(
-    alloc: Global,
-    vars: &Vars,
-    scope: &mut Scope,
-    depth: u32,
-    text: &[u8],
-    out: &mut Draft,
-) -> Result<(), ExpandFault>
-    ensures run { IsRun (branch (found vars.now) (text_run (found vars.now) depth) scope.old text.now out.old) result out.new }
-    ensures scope { OnOk result (scope.new ≡ scope.old) }
-{
-    let mut draft = out.apart(alloc);
-    expand_text(alloc, vars, scope, depth, text, &mut draft)?;
-    out.put_apart(draft)
-}
-
-#[cycle(expansion)]
-#[tactic(auto, using(crate::proofs::Walking::loop_steps))]
-fn expand_loop(
-    alloc: Global,
-    vars: &Vars,
-    scope: &mut Scope,
-    depth: u32,
-    variable: &[u8],
-    list: &[u8],
-    body: &[u8],
-    out: &mut Draft,
-) -> Result<(), ExpandFault>
-    ensures run { IsRun (loop_call (found vars.now) (text_run (found vars.now) depth) scope.old variable.now list.now body.now out.old) result out.new }
-    ensures scope { OnOk result (scope.new ≡ scope.old) }
-{
-    out.pay()?;
-    let name = expand_apart(alloc, vars, scope, depth, variable, out)?;
-    let items = expand_apart(alloc, vars, scope, depth, list, out)?;
-    expand_row(
-        alloc,
-        vars,
-        scope,
-        depth,
-        name.as_slice(),
-        body,
-        items.as_slice(),
-        out,
-    )
-}
-
-// A body for each word of a list, in a row.
-#[cycle(expansion)]
-#[tactic(auto, using(crate::proofs::Walking::looped_steps))]
-fn expand_row(
-    alloc: Global,
-    vars: &Vars,
-    scope: &mut Scope,
-    depth: u32,
-    name: &[u8],
-    body: &[u8],
-    items: &[u8],
-    out: &mut Draft,
-) -> Result<(), ExpandFault>
-    ensures run { IsRun (looped (found vars.now) (text_run (found vars.now) depth) scope.old name.now body.now items.now out.old) result out.new }
-    ensures scope { OnOk result (scope.new ≡ scope.old) }
-{
-    let words = words(alloc, items)?;
-    let mut draft = out.apart(alloc);
-    expand_each(alloc, vars, scope, depth, name, body, &words, &mut draft)?;
-    out.put_apart(draft)
-}
-
-#[cycle(expansion)]
-#[tactic(auto, using(crate::proofs::Walking::each_steps))]
-fn expand_each(
-    alloc: Global,
-    vars: &Vars,
-    scope: &mut Scope,
-    depth: u32,
-    name: &[u8],
-    body: &[u8],
-    words: &[&[u8]],
-    out: &mut Draft,
-) -> Result<(), ExpandFault>
-    ensures run { IsRun (each (found vars.now) (text_run (found vars.now) depth) scope.old name.now body.now [] (map (λ word. word.now) words.now) out.old) result out.new }
-    ensures scope { OnOk result (scope.new ≡ scope.old) }
-{
-    let mut gap: &[u8] = b"";
-    for word in words {
-        out.put_paid(gap)?;
-        expand_one(alloc, vars, scope, depth, name, body, word, out)?;
-        gap = b" ";
-    }
-    Ok(())
-}
-
-// A body in which a name stands for a word.
-#[cycle(expansion)]
-fn expand_one(
-    alloc: Global,
-    vars: &Vars,
-    scope: &mut Scope,
-    depth: u32,
-    name: &[u8],
-    body: &[u8],
-    word: &[u8],
-    out: &mut Draft,
-) -> Result<(), ExpandFault>
-    ensures run { IsRun (text_run (found vars.now) depth (with_local scope.old name.now word.now) body.now out.old) result out.new }
-    ensures scope { OnOk result (scope.new ≡ scope.old) }
-{
-    scope.enter_word(alloc, name, word)?;
-    expand_text(alloc, vars, scope, depth, body, out)?;
-    scope.leave_word();
-    Ok(())
 }

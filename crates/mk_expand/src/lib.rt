@@ -32,7 +32,9 @@ mod tests;
 mod vars;
 mod words;
 
-pub use apply::sorts_rise;
+pub use apply::{sorts_rise, subst_replaces};
+pub use bracket::first_comma_divides;
+pub use call::arguments_divide;
 pub use expander::{expand, one_answer};
 pub use fault::ExpandFault;
 pub use locals::{Local, Locals};
