@@ -11,6 +11,12 @@ use br_path::{Bytes, Memory};
 use std::alloc::Global;
 use std::mem;
 
+/// How many parts of a line have room at first. Most lines have no more.
+const PARTS_ROOM: usize = 3;
+
+/// How many bytes of a text have room at first. Few texts have more.
+const TEXT_ROOM: usize = 40;
+
 /// What the bytes before a place have begun.
 #[derive(Clone, Copy, Debug)]
 pub enum Mode {
@@ -60,6 +66,9 @@ impl Lexer {
     fn put(&mut self, part: Part) -> Result<(), Memory>
         ensures { OnOk result (shown self.new ≡ put_part (shown self.old) part) }
     {
+        if self.parts.is_empty() {
+            self.parts.reserve(PARTS_ROOM)?;
+        }
         self.parts.push(part)?;
         self.mode = Mode::Between;
         Ok(())
@@ -82,6 +91,9 @@ impl Lexer {
     fn keep(&mut self, byte: u8, mode: Mode) -> Result<(), Memory>
         ensures { OnOk result (shown self.new ≡ keep (shown self.old) byte mode) }
     {
+        if self.text.is_empty() {
+            self.text.reserve(TEXT_ROOM)?;
+        }
         self.text.push(byte)?;
         self.mode = mode;
         Ok(())

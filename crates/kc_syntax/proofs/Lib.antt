@@ -1,0 +1,12 @@
+pub mod Each
+pub mod Keeps
+pub mod Known
+pub mod Lasts
+pub mod Laws
+pub mod Matching
+pub mod Menus
+pub mod Moves
+pub mod Nested
+pub mod Runs
+pub mod Small
+pub mod Sources
