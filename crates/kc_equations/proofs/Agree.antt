@@ -212,10 +212,14 @@ module _ (v w : Table) where
   kind_agrees TextKind wish own selects h by_select = value_agrees TextKind wish own h
   kind_agrees IntKind wish own selects h by_select = value_agrees IntKind wish own h
 
+  found_agrees : (wishes : List Wish) (found : Option (KcChoice × List KcEntry)) → Agree (λ t. option_map_or (λ c. names_by_choice c.0 c.1 t) found false)
+      → option_and_then (λ c. taken v wishes c.0 c.1) found ≡ option_and_then (λ c. taken w wishes c.0 c.1) found
+  found_agrees wishes None h = refl
+  found_agrees wishes (Some c) h = taken_agrees wishes c.0 c.1 h
+
   member_agrees : (wishes : List Wish) (symbol : List ℕ) (found : Option (KcChoice × List KcEntry)) → Agree (λ t. option_map_or (λ c. names_by_choice c.0 c.1 t) found false)
       → member_text (option_and_then (λ c. taken v wishes c.0 c.1) found) symbol ≡ member_text (option_and_then (λ c. taken w wishes c.0 c.1) found) symbol
-  member_agrees wishes symbol None h = refl
-  member_agrees wishes symbol (Some c) h = ap (λ o. member_text o symbol) (taken_agrees wishes c.0 c.1 h)
+  member_agrees wishes symbol found h = ap (λ o. member_text o symbol) (found_agrees wishes found h)
 
   module _ (menu : Declared) (wishes : List Wish) (symbol : List ℕ) where
     abbrev by_own : List ℕ → Bool
@@ -235,6 +239,11 @@ module _ (v w : Table) where
         → option_map_or (text_with menu wishes v symbol) first [] ≡ option_map_or (text_with menu wishes w symbol) first []
     with_agrees None own selects choice = refl
     with_agrees (Some e) own selects choice = placed_agrees e.choice e.kind own selects choice
+
+  -- a choice takes one member at tables that agree on the symbols that stand in it
+  pub taken_at_agrees : (menu : Declared) (wishes : List Wish) (place : ℕ) → Agree (λ t. option_map_or (λ c. names_by_choice c.0 c.1 t) (choice_at menu place) false)
+      → taken_at menu wishes v place ≡ taken_at menu wishes w place
+  taken_at_agrees menu wishes place h = found_agrees wishes (choice_at menu place) h
 
   -- an equation gives one text at tables that agree on the symbols that stand in it
   pub equation_agrees : (menu : Declared) (wishes : List Wish) (symbol : List ℕ) → Agree (stands_in menu symbol) → equation menu wishes v symbol ≡ equation menu wishes w symbol

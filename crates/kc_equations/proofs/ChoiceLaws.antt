@@ -57,7 +57,7 @@ any_at p (y ∷ ys) x (zero, below, is) passes = or_left (p y) (list_any p ys) (
 any_at p (y ∷ ys) x (suc k, below, is) passes = or_right (p y) (list_any p ys) (any_at p ys x (k, omega (arith, below), is) passes)
 
 -- a filter keeps a first element if one passes
-first_kept : {A : Type 0} (p : A → Bool) (xs : List A) → list_any p xs ≡ true → (first : A) × (slice_get (filter p xs) 0 ≡ Some first) × Contains xs first × (p first ≡ true)
+pub first_kept : {A : Type 0} (p : A → Bool) (xs : List A) → list_any p xs ≡ true → (first : A) × (slice_get (filter p xs) 0 ≡ Some first) × Contains xs first × (p first ≡ true)
 first_kept p [] there = absurd (false≢true there)
 first_kept p (y ∷ ys) there =
     ⊎_elim
@@ -185,7 +185,7 @@ module _ (values : Table) (members : List KcEntry) where
   unfolding first_member
   nothing_first none = ap (option_map (λ e. e.symbol)) (find_none (λ e. is_visible members e.symbol values) members (λ e. none_visible none e.symbol))
 
-  taken_none : (wishes : List Wish) (choice : KcChoice) → (shows_choice values choice ≡ false) ⊎ (has_visible values members ≡ false) → taken values wishes choice members ≡ None
+  pub taken_none : (wishes : List Wish) (choice : KcChoice) → (shows_choice values choice ≡ false) ⊎ (has_visible values members ≡ false) → taken values wishes choice members ≡ None
   unfolding taken
   taken_none wishes choice (inl hidden) = ap (λ b. if b then option_or (wished_member values wishes members) (option_or (default_member values choice members) (first_member values members)) else None) hidden
   taken_none wishes choice (inr none) =

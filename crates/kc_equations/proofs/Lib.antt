@@ -1,5 +1,6 @@
 pub mod Agree
 pub mod ChoiceLaws
+pub mod Fits
 pub mod OneAnswer
 pub mod Parts
 pub mod Runs

@@ -67,12 +67,12 @@ module _ (menu : Declared) (wishes : List Wish) where
     new_is : (t : List ℕ) → valued t new ≡ option_or (valued t values) (cond (is_text t s) (Some (valued_by menu wishes values s)) None)
     new_is t = valued_push t values s (valued_by menu wishes values s)
 
-    kept : (u : List ℕ) → is_some (valued u values) ≡ true → valued u values ≡ valued u new
+    pub kept : (u : List ℕ) → is_some (valued u values) ≡ true → valued u values ≡ valued u new
     kept u there =
         let (x, is) = some_is (valued u values) there in
         is ∙ sym (new_is u ∙ ap (λ o. option_or o (cond (is_text u s) (Some (valued_by menu wishes values s)) None)) is)
 
-    off : (u : List ℕ) → is_declared menu.entries u ≡ false → valued u values ≡ valued u new
+    pub off : (u : List ℕ) → is_declared menu.entries u ≡ false → valued u values ≡ valued u new
     off u none =
         let gone : valued u values ≡ None = off_part values part u none in
         let apart : is_text u s ≡ false =

@@ -1,6 +1,7 @@
 //! The member that a choice takes.
 ghost use Rattle.std.specs.Prelude.{◌≡◌, find, reverse, option_copied, option_map, ◌&&◌};
 ghost use Rattle.kc_equations.specs.Behind.{behind};
+ghost use Rattle.kc_equations.specs.Choices.{has_visible};
 ghost use Rattle.kc_equations.specs.Equation.{shows_choice, is_wished_y, wished_member, default_member, first_member, taken};
 ghost use Rattle.kc_menu.specs.Visible.{is_visible};
 
@@ -23,6 +24,9 @@ pub fn taken<'a>(
     if !shows_choice(values, choice) {
         return None;
     }
+    if !has_visible(values, members) {
+        return None;
+    }
     if let Some(symbol) = wished_member(values, wishes, members) {
         return Some(symbol);
     }
@@ -36,6 +40,18 @@ fn shows_choice(values: &Values, choice: &KcChoice) -> bool
     ensures { result ≡ shows_choice values.now choice.now }
 {
     choice.prompts.some_holds(values) && choice.depends.all_hold(values)
+}
+
+/// Whether one of the members is visible.
+fn has_visible(values: &Values, members: &[&KcEntry]) -> bool
+    ensures { result ≡ has_visible values.now (behind members.now) }
+{
+    for entry in members {
+        if entry.shows(values) {
+            return true;
+        }
+    }
+    false
 }
 
 /// Of the visible members whose wish is y, the one whose line comes last.

@@ -13,7 +13,7 @@ pub fn one_solution()
     ensures { (menu : Declared) → (wishes : List Wish) → NoCycle menu → HasOneSolution menu wishes }
 {}
 
-/// A configuration is solved in one way or has one first fault, and not both.
+/// A configuration is solved in one way at most, has one first fault at most, and not both.
 pub fn one_answer()
     ensures values { (menu : Declared) → (wishes : List Wish) → IsSolvedOnce menu wishes }
     ensures fault { (menu : Declared) → (wishes : List Wish) → HasOneFault menu wishes }

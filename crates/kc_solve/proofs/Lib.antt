@@ -1,0 +1,16 @@
+pub mod Chosen
+pub mod CycleLaws
+pub mod Declares
+pub mod FillSteps
+pub mod Filling
+pub mod IndexRows
+pub mod Kept
+pub mod Named
+pub mod Places
+pub mod Rows
+pub mod Sequences
+pub mod Solving
+pub mod Steps
+pub mod SymbolSets
+pub mod TestMenus
+pub mod WordLaws

@@ -1,0 +1,9 @@
+use Rattle.std.proofs.Common.{◌≡◌, drop, map, length}
+use Rattle.kc_equations.specs.Behind.{behind}
+use Rattle.kc_solve.specs.Groups.{grouped, put_all}
+use Rattle.kc_solve.specs.Index.{placed_entries}
+use Rattle.kc_solve.proofs.index.own_entries.Given as goal
+
+-- those that are left are still to be put
+abbrev pub invariant-loop-entry : goal.invariant-loop-entry
+invariant-loop-entry l = put_all (map behind l.rows) (placed_entries l.symbols (drop l.entry-index l.entries)) ≡ grouped (length l.symbols) (placed_entries l.symbols l.entries)
