@@ -1,20 +1,21 @@
 -- What the answer to words and a list of files tells of a call.
-use Rattle.std.proofs.Common.{ℕ, ◌≡◌, ◌≢◌, ◌<◌, ◌≤◌, ◌⊎◌, inl, inr, Bool, List, [], ◌∷◌, length, get_or, Result, Ok, Err, refl, sym, ap, ◌∙◌, subst, arith, nat_eq}
-use Rattle.std.specs.Prelude.{IsTrue, IfOk, codes}
-use Rattle.std.specs.Cmp.Lexicographic.{pointwise, bytes_decides}
+use Rattle.std.proofs.Common.{ℕ, ◌≡◌, ◌≢◌, ◌<◌, ◌≤◌, ◌⊎◌, inl, inr, List, Result, Ok, Err, refl, sym, ap, subst}
+use Rattle.std.specs.Prelude.{IfOk}
+use Rattle.std.proofs.lemmas.Bool.{cases_lt}
 use Rattle.br_path.specs.declared.values.Memory.{Memory as Want}
 use Rattle.feed_io.specs.declared.feed.FeedFile.{FeedFile}
 use Rattle.feed_io.specs.declared.read.ReadFault.{ReadFault}
 use Rattle.feed_io.specs.declared.read.ReadFault.TheVariants.{Feed, TooManyFiles, TooLarge, BadPath, Twice, Memory}
+use Rattle.feed_io.specs.Cause.{Rose}
 use Rattle.feed_io.specs.Reading.{IsReading, IsFirstReadFault}
 use Rattle.br_words.specs.declared.command.Words.{Words}
 use Rattle.br_words.specs.Command.{IsCommand}
 use Rattle.br_run.specs.declared.answer.Answer.{Answer}
 use Rattle.br_run.specs.declared.status.Status.{Status}
 use Rattle.br_run.specs.declared.status.Status.TheVariants.{Done, PackagesFailed, Overwrites, BadInput, NoMemory, FeedFault, SinkFault, BadWords}
-use Rattle.br_run.specs.Answer.{IsAnswer, IsAnswerOf, IsPossible, feed_failed, is_run}
-use Rattle.br_run.specs.Out.{Gives, IsRun}
-use Rattle.br_run.specs.Sinks.{Sinks, IsWritten}
+use Rattle.br_run.specs.Answer.{IsAnswer, IsCommandAnswer, IsPossible, feed_failed, is_config, is_run}
+use Rattle.br_run.specs.Out.{Gives, EndsEarly, IsRun}
+use Rattle.br_run.specs.Sinks.{Sinks, IsWritten, IsCutShort}
 
 -- a fault that is neither the feed's nor want of memory is the list's
 pub IsFirstReadFault-IsReading : (list : List FeedFile) (fault : ReadFault) → fault ≢ Feed → fault ≢ Memory → IsReading list (Err fault) → IsFirstReadFault list fault
@@ -32,7 +33,7 @@ IfOk-same P answer (Err want) same holds = tt
 
 -- what a command gives is the answer to its words
 pub IsAnswer-command : (words : List (List ℕ)) (list : List FeedFile) (command : Words) (result : Result Answer Want) → IsCommand words command
-    → IfOk result (λ answer. IsAnswerOf (is_run command) list answer ⊎ (answer ≡ feed_failed)) → IfOk result (λ answer. IsAnswer words list answer ⊎ (answer ≡ feed_failed))
+    → IfOk result (λ answer. IsCommandAnswer (is_run command) (is_config command) list answer ⊎ (answer ≡ feed_failed)) → IfOk result (λ answer. IsAnswer words list answer ⊎ (answer ≡ feed_failed))
 IsAnswer-command words list command (Ok answer) is (inl given) = inl (inr (command, is, given))
 IsAnswer-command words list command (Ok answer) is (inr failed) = inr failed
 IsAnswer-command words list command (Err want) is given = tt
@@ -44,21 +45,32 @@ Gives-IsAnswer words list answer held (inl is) other written = record { answer =
 Gives-IsAnswer words list answer held (inr failed) other written = absurd (other failed)
 
 -- what is given by a status is what the status says
-run_status : (words : List (List ℕ)) (list : List FeedFile) (held : Sinks) (status : Status) → status ≢ SinkFault → Gives words list status held → IsRun words list status held
-run_status words list held Done other given = given
-run_status words list held PackagesFailed other given = given
-run_status words list held Overwrites other given = given
-run_status words list held BadInput other given = given
-run_status words list held NoMemory other given = tt
-run_status words list held FeedFault other given = tt
-run_status words list held SinkFault other given = absurd (other refl)
-run_status words list held BadWords other given = given
+run_status : (words : List (List ℕ)) (list : List FeedFile) (before now : ℕ) (held : Sinks) (status : Status) → status ≢ SinkFault → Gives words list status held → IsRun words list before now status held
+run_status words list before now held Done other given = given
+run_status words list before now held PackagesFailed other given = given
+run_status words list before now held Overwrites other given = given
+run_status words list before now held BadInput other given = given
+run_status words list before now held NoMemory other given = tt
+run_status words list before now held FeedFault other given = tt
+run_status words list before now held SinkFault other given = absurd (other refl)
+run_status words list before now held BadWords other given = given
 
 -- and each answer is what its status says
-pub IsRun-IsAnswer : (words : List (List ℕ)) (list : List FeedFile) (answer : Answer) (held : Sinks)
-    → IsAnswer words list answer ⊎ (answer ≡ feed_failed) → IsPossible answer → IsWritten answer held → IsRun words list answer.status held
-IsRun-IsAnswer words list answer held (inl is) possible written =
-    run_status words list held answer.status possible.sink (record { answer = answer; is = is; status = refl; written = written })
-IsRun-IsAnswer words list answer held (inr failed) possible written =
+pub IsRun-IsAnswer : (words : List (List ℕ)) (list : List FeedFile) (before now : ℕ) (answer : Answer) (held : Sinks)
+    → IsAnswer words list answer ⊎ (answer ≡ feed_failed) → IsPossible answer → IsWritten answer held → IsRun words list before now answer.status held
+IsRun-IsAnswer words list before now answer held (inl is) possible written =
+    run_status words list before now held answer.status possible.sink (record { answer = answer; is = is; status = refl; written = written })
+IsRun-IsAnswer words list before now answer held (inr failed) possible written =
     let fault : answer.status ≡ FeedFault = ap (λ a. a.status) failed in
-    subst (λ status. IsRun words list status held) (sym fault) tt
+    subst (λ status. IsRun words list before now status held) (sym fault) tt
+
+-- an answer cut short, where it is the failed feed's by the feed's counts
+pub EndsEarly-IsAnswer : (words : List (List ℕ)) (list : List FeedFile) (before now : ℕ) (answer : Answer) (held : Sinks)
+    → IsAnswer words list answer ⊎ (answer ≡ feed_failed) → (answer ≡ feed_failed → Rose before now) → (before < now → answer ≡ feed_failed)
+    → IsCutShort answer held → EndsEarly words list before now held
+EndsEarly-IsAnswer words list before now answer held (inr failed) cause always cut = record { answer = answer; is = inr (failed, cause failed); cut = cut }
+EndsEarly-IsAnswer words list before now answer held (inl is) cause always cut =
+    elim (cases_lt before now) [
+      | inl greater ↦ record { answer = answer; is = inr (always greater, cause (always greater)); cut = cut }
+      | inr kept ↦ record { answer = answer; is = inl (is, kept); cut = cut }
+    ]

@@ -1,6 +1,5 @@
 -- The file at its place, made in its folders.
 use Rattle.std.proofs.Common.{ℕ, zero, suc, ◌≡◌, ◌+◌, ◌<◌, ◌≤◌, Bool, true, false, ◌&&◌, length, take, None, Ok, inl, inr, refl, sym, ap, ◌∙◌, arith, nat_lt, nat_le}
-use Rattle.std.specs.FinMap as fin
 use Rattle.std.specs.Cmp.{first_so, second_so}
 use Rattle.std.specs.List.{list_all}
 use Rattle.std.proofs.lemmas.Bool.Decides.{nat_tests}
@@ -11,7 +10,7 @@ use Rattle.tree_map.specs.declared.entry.Node.TheVariants.{File}
 use Rattle.tree_map.specs.declared.pen.Pen.{Pen}
 use Rattle.tree_map.specs.Tree.{Tree, node_at}
 use Rattle.tree_map.specs.Pen.{is_within_limits}
-use Rattle.tree_map.specs.Change.{MakeFile, named, next_label, pen_after, tree_after, new_name_fault, no_folder_fault, parent_fault, changed}
+use Rattle.tree_map.specs.Change.{MakeFile, next_label, pen_after, tree_after, new_name_fault, no_folder_fault, parent_fault, changed}
 use Rattle.tree_map.proofs.Inserts.{get-insert_cases, get-insert_same}
 use Rattle.tree_map.proofs.Lengths.{rooted_text-short}
 use Rattle.tree_map.proofs.Orders.{label_total}

@@ -6,6 +6,9 @@
 #![tactic(auto)]
 
 mod answer;
+mod build;
+mod commands;
+mod config;
 mod put;
 mod report;
 mod root;

@@ -19,6 +19,7 @@ pub fn put_answer<O: Sink, I: Sink>(
     ensures cause { IsErr result → (Rose (O.faults out.old) (O.faults out.new)) ⊎ (Rose (I.faults image.old) (I.faults image.new)) }
     ensures out_always { O.faults out.old < O.faults out.new → IsErr result }
     ensures image_always { I.faults image.old < I.faults image.new → IsErr result }
+    ensures image_failed { I.faults image.old < I.faults image.new → out.new ≡ out.old }
     ensures untouched { answer.now.image ≡ None → image.new ≡ image.old }
 {
     put_all(image, answer.image_bytes())?;

@@ -1,62 +1,121 @@
 //! The texts of reports.
-ghost use Rattle.std.specs.Prelude.{◌≡◌, ◌++◌, IfOk, OnOk, codes};
-ghost use Rattle.std.specs.Fmt.{decimal};
+ghost use Rattle.std.specs.Prelude.{◌≡◌, ◌++◌, IfOk, OnOk};
 ghost use Rattle.br_path.specs.Path.{path_text};
 ghost use Rattle.br_run.specs.Report as text;
 
 use crate::status::Status;
 use br_path::{Bytes, Memory, Path};
 use feed_io::ReadFault;
+use kc_solve::SolveFault;
+use kc_syntax::{KcFault, KcKind};
 use std::alloc::{AllocError, Global};
 
 /// The report of a fault, by its words and the status's number.
-pub fn fault_report(alloc: Global, fault: &str, number: u8) -> Result<Bytes, Memory>
+pub fn fault_report(alloc: Global, fault: &[u8], number: u8) -> Result<Bytes, Memory>
     ensures { IfOk result (λ b. b ≡ text.fault_report fault.now number) }
 {
-    let report = format!(in alloc; "fault {fault}\nstatus {number}\n")?;
-    Ok(Bytes::from_slice(alloc, report.as_bytes())?)
-}
-
-/// The report of words that are no command, by the place of the first that doesn't fit.
-pub fn words_report(alloc: Global, place: u32) -> Result<Bytes, Memory>
-    ensures { IfOk result (λ b. b ≡ text.fault_report (codes "words " ++ decimal place) 7) }
-{
-    let fault = format!(in alloc; "words {place}")?;
-    fault_report(alloc, fault.as_str(), Status::BadWords.number())
-}
-
-/// The report of files with a fault.
-pub fn files_report(alloc: Global, fault: &ReadFault) -> Result<Bytes, Memory>
-    ensures { IfOk result (λ b. b ≡ text.fault_report (text.read_fault_words fault.now) 3) }
-{
-    match fault {
-        ReadFault::Feed => fault_report(alloc, "feed", Status::BadInput.number()),
-        ReadFault::TooManyFiles => fault_report(alloc, "too-many-files", Status::BadInput.number()),
-        ReadFault::TooLarge => fault_report(alloc, "too-large", Status::BadInput.number()),
-        ReadFault::BadPath(number) => path_report(alloc, *number),
-        ReadFault::Twice(at) => twice_report(alloc, at),
-        ReadFault::Memory => fault_report(alloc, "", Status::BadInput.number()),
-    }
-}
-
-// The report of a file whose path is none, by the file's number.
-fn path_report(alloc: Global, number: u32) -> Result<Bytes, Memory>
-    ensures { IfOk result (λ b. b ≡ text.fault_report (codes "path " ++ decimal number) 3) }
-{
-    let fault = format!(in alloc; "path {number}")?;
-    fault_report(alloc, fault.as_str(), Status::BadInput.number())
-}
-
-// The report of a path that stands at, above or below an earlier one.
-fn twice_report(alloc: Global, at: &Path) -> Result<Bytes, Memory>
-    ensures { IfOk result (λ b. b ≡ text.fault_report (codes "twice " ++ path_text at.now) 3) }
-{
-    let mut report = Vec::from_slice(alloc, b"fault twice ")?;
-    push_path(&mut report, at)?;
-    let number = Status::BadInput.number();
+    let mut report = Vec::from_slice(alloc, b"fault ")?;
+    report.extend_from_slice(fault)?;
     let ends = format!(in alloc; "\nstatus {number}\n")?;
     report.extend_from_slice(ends.as_bytes())?;
     Ok(Bytes { items: report })
+}
+
+/// The words of a command line that is none, by the place of the first word that doesn't fit.
+pub fn misfit_words(alloc: Global, place: u32) -> Result<Bytes, Memory>
+    ensures { IfOk result (λ b. b ≡ text.misfit_words place) }
+{
+    let words = format!(in alloc; "words {place}")?;
+    Ok(Bytes::from_slice(alloc, words.as_bytes())?)
+}
+
+/// The words of a fault of the files that were read.
+pub fn read_fault_words(alloc: Global, fault: &ReadFault) -> Result<Bytes, Memory>
+    ensures { IfOk result (λ b. b ≡ text.read_fault_words fault.now) }
+{
+    match fault {
+        ReadFault::Feed => Ok(Bytes::from_slice(alloc, b"feed")?),
+        ReadFault::TooManyFiles => Ok(Bytes::from_slice(alloc, b"too-many-files")?),
+        ReadFault::TooLarge => Ok(Bytes::from_slice(alloc, b"too-large")?),
+        ReadFault::BadPath(number) => path_words(alloc, *number),
+        ReadFault::Twice(at) => twice_words(alloc, at),
+        ReadFault::Memory => Ok(Bytes::from_slice(alloc, b"")?),
+    }
+}
+
+// A file whose path is none, by the file's number.
+fn path_words(alloc: Global, number: u32) -> Result<Bytes, Memory>
+    ensures { IfOk result (λ b. b ≡ text.path_words number) }
+{
+    let words = format!(in alloc; "path {number}")?;
+    Ok(Bytes::from_slice(alloc, words.as_bytes())?)
+}
+
+// A path that stands at, above or below an earlier one.
+fn twice_words(alloc: Global, at: &Path) -> Result<Bytes, Memory>
+    ensures { IfOk result (λ b. b ≡ text.twice_words at.now) }
+{
+    let mut words = Vec::from_slice(alloc, b"twice ")?;
+    push_path(&mut words, at)?;
+    Ok(Bytes { items: words })
+}
+
+/// The words of a fault of the configuration files.
+pub fn menu_fault_words(alloc: Global, fault: &KcFault) -> Result<Bytes, Memory>
+    ensures { IfOk result (λ b. b ≡ text.menu_fault_words fault.now) }
+{
+    let mut words = Vec::from_slice(alloc, b"config ")?;
+    push_path(&mut words, &fault.file)?;
+    let line = fault.line;
+    let number = format!(in alloc; " {line} ")?;
+    words.extend_from_slice(number.as_bytes())?;
+    words.extend_from_slice(kind_words(fault.kind))?;
+    Ok(Bytes { items: words })
+}
+
+fn kind_words(kind: KcKind) -> &'static [u8]
+    ensures { result.now ≡ text.kind_words kind }
+{
+    match kind {
+        KcKind::NoFile => b"no-file",
+        KcKind::BadLine => b"bad-line",
+        KcKind::BadString => b"bad-string",
+        KcKind::OpenBlock => b"open-block",
+        KcKind::Loop => b"loop",
+        KcKind::TwoTypes => b"two-types",
+        KcKind::NoType => b"no-type",
+        KcKind::TooMany => b"too-many",
+    }
+}
+
+/// The words of a fault of `.config`, by its line.
+pub fn wish_fault_words(alloc: Global, line: u32) -> Result<Bytes, Memory>
+    ensures { IfOk result (λ b. b ≡ text.wish_fault_words line) }
+{
+    let words = format!(in alloc; "wish {line}")?;
+    Ok(Bytes::from_slice(alloc, words.as_bytes())?)
+}
+
+/// The words of a fault of the solution, with its symbol.
+pub fn solve_fault_words(alloc: Global, fault: &SolveFault) -> Result<Bytes, Memory>
+    ensures { IfOk result (λ b. b ≡ text.solve_fault_words fault.now) }
+{
+    match fault {
+        SolveFault::SelectOfChoice(symbol) => symbol_words(alloc, b"select-of-choice ", symbol),
+        SolveFault::SelectOfValue(symbol) => symbol_words(alloc, b"select-of-value ", symbol),
+        SolveFault::Cycle(symbol) => symbol_words(alloc, b"config-cycle ", symbol),
+        SolveFault::BadNumber(symbol) => symbol_words(alloc, b"bad-number ", symbol),
+        SolveFault::Memory => Ok(Bytes::from_slice(alloc, b"")?),
+    }
+}
+
+// The words of a fault, with a symbol behind them.
+fn symbol_words(alloc: Global, fault: &[u8], symbol: &Bytes) -> Result<Bytes, Memory>
+    ensures { IfOk result (λ b. b ≡ fault.now ++ symbol.now) }
+{
+    let mut words = Vec::from_slice(alloc, fault)?;
+    words.extend_from_slice(symbol.as_slice())?;
+    Ok(Bytes { items: words })
 }
 
 // A path's names with a slash between two.

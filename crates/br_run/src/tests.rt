@@ -16,6 +16,28 @@ const FEED_FAULT: &str = "fault feed\nstatus 5\n";
 
 const NOT_YET: &str = "fault not-yet\nstatus 3\n";
 
+/// A choice of C libraries, and two values.
+const LIBC: &str = "choice
+\tprompt \"libc\"
+\tdefault C_B
+config C_A
+\tbool \"a\"
+config C_B
+\tbool \"b\"
+config C_C
+\tbool \"c\"
+\tdepends on OFF
+endchoice
+config OFF
+\tbool
+config NAME
+\tstring \"name\"
+\tdefault \"x\\\"y\" if C_B
+config N
+\tint \"n\"
+\tdefault 3
+";
+
 /// The files of the package hello, in the order in which a folder gives them.
 fn hello(alloc: Global) -> Result<FeedFiles, Memory> {
     files(
@@ -114,6 +136,22 @@ fn check_report(
     Ok(())
 }
 
+/// Asserts the report of `config` over `Config.in` and `.config`, which is missing where nothing is wished.
+fn check_config(
+    rt: &impl Abort,
+    alloc: Global,
+    menu: &str,
+    wishes: &str,
+    wanted: (u8, &str),
+) -> Result<(), Memory> {
+    let files = if wishes.is_empty() {
+        files(alloc, &[("Config.in", menu)])?
+    } else {
+        files(alloc, &[("Config.in", menu), (".config", wishes)])?
+    };
+    check_report(rt, alloc, &["config"], files, wanted)
+}
+
 #[test]
 fn one_package_installs_one_file(rt: HostRuntime) -> Result<(), Fail> {
     check_hello(&rt, rt.alloc(), 0, 0, 1000, (0, REPORT, IMAGE))?;
@@ -125,6 +163,7 @@ fn other_commands_are_not_yet_run(rt: HostRuntime) -> Result<(), Fail> {
     let alloc = rt.alloc();
     for all in [
         ["plan"].as_slice(),
+        &["show-depends", "hello"],
         &["build", "-j", "2"],
         &["build", "--trace"],
     ] {
@@ -136,40 +175,111 @@ fn other_commands_are_not_yet_run(rt: HostRuntime) -> Result<(), Fail> {
 #[test]
 fn words_that_are_no_command_are_named(rt: HostRuntime) -> Result<(), Fail> {
     let alloc = rt.alloc();
-    let none = hello(alloc)?;
-    check_report(&rt, alloc, &[], none, (7, "fault words 0\nstatus 7\n"))?;
-    let jobs = hello(alloc)?;
     check_report(
         &rt,
         alloc,
-        &["build", "-j"],
-        jobs,
-        (7, "fault words 2\nstatus 7\n"),
+        &[],
+        files(alloc, &[])?,
+        (7, "fault words 0\nstatus 7\n"),
     )?;
+    for all in [
+        ["build", "-j"].as_slice(),
+        &["build", "-j", "0"],
+        &["build", "-j", "65"],
+        &["build", "-j", "064"],
+    ] {
+        let report = "fault words 2\nstatus 7\n";
+        check_report(&rt, alloc, all, files(alloc, &[])?, (7, report))?;
+    }
     Ok(())
 }
 
 #[test]
 fn files_that_are_no_input_are_named(rt: HostRuntime) -> Result<(), Fail> {
     let alloc = rt.alloc();
-    let other = files(alloc, &[("Config.in", "")])?;
-    check_report(&rt, alloc, &["build"], other, (3, NOT_YET))?;
-    let twice = files(alloc, &[("a/b", ""), ("a", "")])?;
-    check_report(
-        &rt,
-        alloc,
-        &["build"],
-        twice,
-        (3, "fault twice a\nstatus 3\n"),
-    )?;
-    let path = files(alloc, &[("a/b", ""), ("a/..", "")])?;
-    check_report(
-        &rt,
-        alloc,
-        &["build"],
-        path,
-        (3, "fault path 1\nstatus 3\n"),
-    )?;
+    for (command, first, second, report) in [
+        ("build", "Config.in", ".config", NOT_YET),
+        ("build", "a/b", "a", "fault twice a\nstatus 3\n"),
+        ("build", "a/b", "a/..", "fault path 1\nstatus 3\n"),
+        ("config", "a", "a", "fault twice a\nstatus 3\n"),
+        ("config", "a/../b", "a", "fault path 0\nstatus 3\n"),
+    ] {
+        let files = files(alloc, &[(first, ""), (second, "")])?;
+        check_report(&rt, alloc, &[command], files, (3, report))?;
+    }
+    Ok(())
+}
+
+#[test]
+fn a_configuration_is_its_lines(rt: HostRuntime) -> Result<(), Fail> {
+    let alloc = rt.alloc();
+    let unmet = "config BR2_ARM
+\tbool
+config BR2_PACKAGE_A
+\tbool \"a\"
+\tselect BR2_PACKAGE_B
+config BR2_PACKAGE_B
+\tbool \"b\"
+\tdepends on BR2_ARM
+";
+    for (menu, wishes, report) in [
+        ("", "", ""),
+        (
+            unmet,
+            "BR2_PACKAGE_A=y\n",
+            "BR2_PACKAGE_A=y\nBR2_PACKAGE_B=y\n",
+        ),
+        (LIBC, "", "# C_A is not set\nC_B=y\nNAME=\"x\\\"y\"\nN=3\n"),
+        (
+            LIBC,
+            "C_A=y\nC_C=y\n",
+            "C_A=y\n# C_B is not set\nNAME=\"\"\nN=3\n",
+        ),
+    ] {
+        check_config(&rt, alloc, menu, wishes, (0, report))?;
+    }
+    Ok(())
+}
+
+#[test]
+fn a_faulty_configuration_is_its_first_fault(rt: HostRuntime) -> Result<(), Fail> {
+    let alloc = rt.alloc();
+    let cycle = "config BR2_PACKAGE_X
+\tbool \"x\"
+\tdepends on BR2_PACKAGE_Y
+config BR2_PACKAGE_Y
+\tbool \"y\"
+\tdepends on BR2_PACKAGE_X
+";
+    let member = "config A
+\tbool \"a\"
+\tselect B
+choice
+\tprompt \"one\"
+config B
+\tbool \"b\"
+endchoice
+";
+    let value = "config A
+\tbool \"a\"
+\tselect N
+config N
+\tint \"n\"
+";
+    for (menu, wishes, report) in [
+        (
+            "config A\nbool \"a\"\nrange 1 2\n",
+            "FOO\n",
+            "fault config Config.in 3 bad-line\nstatus 3\n",
+        ),
+        (cycle, "FOO\n", "fault wish 1\nstatus 3\n"),
+        (member, "", "fault select-of-choice B\nstatus 3\n"),
+        (value, "N=x\n", "fault select-of-value N\nstatus 3\n"),
+        (cycle, "", "fault config-cycle BR2_PACKAGE_X\nstatus 3\n"),
+        (LIBC, "N=x\n", "fault bad-number N\nstatus 3\n"),
+    ] {
+        check_config(&rt, alloc, menu, wishes, (3, report))?;
+    }
     Ok(())
 }
 

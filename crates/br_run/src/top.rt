@@ -4,12 +4,14 @@ ghost use Rattle.feed_io.specs.declared.feed.FeedFile.{FeedFile};
 ghost use Rattle.feed_io.specs.Cause.{Rose};
 ghost use Rattle.feed_io.specs.Sink.{Appended};
 ghost use Rattle.br_run.specs.declared.answer.Answer.{Answer as AnAnswer};
-ghost use Rattle.br_words.specs.Command.{IsMisfit};
+ghost use Rattle.br_words.specs.declared.command.Words.TheVariants.{Config};
+ghost use Rattle.br_words.specs.Command.{IsCommand, IsMisfit};
+ghost use Rattle.br_run.specs.Answer.{IsPossible, feed_failed};
 ghost use Rattle.br_run.specs.Out.{Gives, IsRun};
-ghost use Rattle.br_run.specs.Report.{fault_report};
+ghost use Rattle.br_run.specs.Report.{fault_report, misfit_words};
 ghost use Rattle.br_run.specs.Sinks.{sinks, IsCutShort};
 
-use crate::answer::answer_to;
+use crate::commands::answer_to;
 use crate::put::put_answer;
 use crate::status::Status;
 use br_path::Bytes;
@@ -18,9 +20,10 @@ use std::alloc::Global;
 
 /// Runs the builder: reads the files of a feed, and puts an image and a report.
 ///
-/// The words are those behind the program's name. So far `build` by one worker is the one command that is run, and input
-/// of the first form is built; to other commands and other input the report says `fault not-yet`. The image is put first, and the report
-/// behind it; both are made before the first put, so that after `NoMemory` the sinks are as before.
+/// The words are those behind the program's name. So far two commands are run. `config` reports the lines of the configuration, and puts
+/// no image. `build` by one worker without a trace builds input of the first form. To other commands, and to other input that is to be
+/// built, the report says `fault not-yet`. The image is put first, and the report behind it; both are made before the
+/// first put, so that after `NoMemory` the sinks are as before.
 pub fn run<F: Feed, O: Sink, I: Sink>(
     alloc: Global,
     words: &[Bytes],
@@ -35,7 +38,7 @@ pub fn run<F: Feed, O: Sink, I: Sink>(
         → Gives words.now list result (sinks (I.held image.old) (I.held image.new) (O.held out.old) (O.held out.new)) }
 
     // The same by the status, whatever fails.
-    ensures told { (list : List FeedFile) → F.left feed.old ≡ Some list → IsRun words.now list result (sinks (I.held image.old) (I.held image.new) (O.held out.old) (O.held out.new)) }
+    ensures told { (list : List FeedFile) → F.left feed.old ≡ Some list → IsRun words.now list (F.faults feed.old) (F.faults feed.new) result (sinks (I.held image.old) (I.held image.new) (O.held out.old) (O.held out.new)) }
 
     // What holds over feeds and sinks that tell nothing, too.
     ensures memory { result ≡ Status.NoMemory → (out.new ≡ out.old) × (image.new ≡ image.old) }
@@ -45,10 +48,14 @@ pub fn run<F: Feed, O: Sink, I: Sink>(
     ensures sink_cause { result ≡ Status.SinkFault → (Rose (O.faults out.old) (O.faults out.new)) ⊎ (Rose (I.faults image.old) (I.faults image.new)) }
     ensures out_always { O.faults out.old < O.faults out.new → result ≡ Status.SinkFault }
     ensures image_always { I.faults image.old < I.faults image.new → result ≡ Status.SinkFault }
-    ensures cut_short { result ≡ Status.SinkFault → (answer : AnAnswer) × IsCutShort answer (sinks (I.held image.old) (I.held image.new) (O.held out.old) (O.held out.new)) }
+    ensures image_failed { I.faults image.old < I.faults image.new → out.new ≡ out.old }
+    ensures cut_short { result ≡ Status.SinkFault → (answer : AnAnswer) × IsPossible answer
+        × (answer ≡ feed_failed → Rose (F.faults feed.old) (F.faults feed.new)) × (F.faults feed.old < F.faults feed.new → answer ≡ feed_failed)
+        × IsCutShort answer (sinks (I.held image.old) (I.held image.new) (O.held out.old) (O.held out.new)) }
     ensures no_image { result ≢ Status.Done → result ≢ Status.SinkFault → image.new ≡ image.old }
+    ensures config { IsCommand words.now Config → image.new ≡ image.old }
     ensures words { (place : ℕ) → IsMisfit words.now place → (feed.new ≡ feed.old) × ((result ≡ Status.BadWords) ⊎ (result ≡ Status.SinkFault) ⊎ (result ≡ Status.NoMemory)) }
-    ensures bad_words { result ≡ Status.BadWords → (place : ℕ) × IsMisfit words.now place }
+    ensures bad_words { result ≡ Status.BadWords → (place : ℕ) × IsMisfit words.now place × Appended (O.held out.old) (fault_report (misfit_words place) 7) (O.held out.new) }
 {
     let Ok(answer) = answer_to(alloc, words, feed) else {
         return Status::NoMemory;

@@ -3,7 +3,7 @@ use Rattle.std.specs.Prelude.{IfOk}
 use Rattle.br_words.proofs.OneAnswer.{has_one_answer}
 use Rattle.br_run.specs.Answer.{bad_words}
 use Rattle.br_run.proofs.Answers.{IsAnswer-command}
-use Rattle.br_run.proofs.answer.answer_to.Goals as goal
+use Rattle.br_run.proofs.commands.answer_to.Goals as goal
 
 pub returns-in-Ok-clause-told : goal.returns-in-Ok-clause-told
 returns-in-Ok-clause-told g c = λ list left. IsAnswer-command _ list _ _ c.in-Ok.ensures (c.answer_command.ensures.told list left)
@@ -12,3 +12,6 @@ pub returns-in-At-clause-misfit : goal.returns-in-At-clause-misfit
 returns-in-At-clause-misfit g c = λ place misfit.
     let found = rw c.in-At.is at c.in-Err.ensures in
     subst (λ p. IfOk c.answer_bad_words.result (λ answer. answer ≡ bad_words p)) ((has_one_answer _).place _ _ found misfit) c.answer_bad_words.ensures
+
+pub returns-in-Ok-clause-no_image : goal.returns-in-Ok-clause-no_image
+returns-in-Ok-clause-no_image g c = λ is. c.answer_command.ensures.no_image ((has_one_answer _).command _ _ c.in-Ok.ensures is)

@@ -1,0 +1,49 @@
+-- The files of a list are small, and what the parts of a configuration give is the answer to its files.
+use Rattle.std.proofs.Common.{ℕ, ◌≡◌, ◌+◌, ◌≤◌, inr, true, false, cond, List, [], ◌∷◌, length, map, Some, Result, Ok, Err, sym, ap, ◌∙◌, subst, arith}
+use Rattle.std.specs.Prelude.{IfOk}
+use Rattle.std.proofs.lemmas.List.Sums.{sum_by-append}
+use Rattle.std.specs.FinMap as fin
+use Rattle.std.specs.Ordering.{eq_by_cmp}
+use Rattle.br_path.specs.declared.values.Memory.{Memory as Want}
+use Rattle.br_path.specs.Path.{Names, path_cmp}
+use Rattle.br_path.specs.Files.{FileMap}
+use Rattle.br_path.proofs.PathOrder.{path_total}
+use Rattle.feed_io.specs.declared.feed.FeedFile.{FeedFile}
+use Rattle.feed_io.specs.Reading.{IsFaultless, files_of, place_of, total_size}
+use Rattle.dot_config.specs.Reading.{IsReading}
+use Rattle.kc_menu.specs.Menu.{Declared}
+use Rattle.kc_menu.specs.declared.wishes.Wish.{Wish}
+use Rattle.kc_syntax.specs.Events.{AreSmall}
+use Rattle.kc_syntax.specs.Reading.{menu_of}
+use Rattle.br_run.specs.declared.answer.Answer.{Answer}
+use Rattle.br_run.specs.Answer.{IsConfigAnswer, IsSolveAnswer, IsWishAnswer, wishes_text}
+
+found_small : (list : List FeedFile) (at : Names) (bytes : List ℕ) → fin.find path_cmp at (map (λ file. (place_of file, file.bytes)) list) ≡ Some bytes → length bytes ≤ total_size list
+found_small [] at bytes found = absurd cc
+found_small (file ∷ list) at bytes found =
+    let split = sum_by-append (λ f. length f.bytes) (file ∷ []) list in
+    let small : length bytes ≤ length file.bytes + total_size list =
+    elim (eq_by_cmp path_cmp at (place_of file)) as (λ b. cond b (Some file.bytes) (fin.find path_cmp at (map (λ f. (place_of f, f.bytes)) list)) ≡ Some bytes → length bytes ≤ length file.bytes + total_size list) [
+      | true ↦ λ here. let same : file.bytes ≡ bytes = cc in omega (arith, ap length same)
+      | false ↦ λ later. let small = found_small list at bytes later in omega (arith, small)
+    ] found in
+    omega (arith, small, split)
+
+pub faultless_small : (list : List FeedFile) (files : FileMap) → IsFaultless list → files ≡ files_of list → AreSmall files
+faultless_small list files faultless same at bytes found =
+    let told : fin.find path_cmp at (map (λ file. (place_of file, file.bytes)) list) ≡ Some bytes =
+    sym (fin.get-from_entries path_total (map (λ file. (place_of file, file.bytes)) list) at) ∙ ap (λ m. fin.get m at) (sym same) ∙ found in
+    let small = found_small list at bytes told in
+    omega (arith, small, faultless.small)
+
+-- what the menu of the files and the text of their wishes give is the answer to the files
+pub IsConfigAnswer-wishes : (files : FileMap) (menu : Declared) (text : List ℕ) (result : Result Answer Want) → menu_of files ≡ Ok menu → text ≡ wishes_text files
+    → IfOk result (IsWishAnswer menu text) → IfOk result (IsConfigAnswer files)
+IsConfigAnswer-wishes files menu text (Ok answer) is same given = inr (menu, is, subst (λ t. IsWishAnswer menu t answer) same given)
+IsConfigAnswer-wishes files menu text (Err want) is same given = tt
+
+-- what a menu and the wishes of a text give is the answer to the menu and the text
+pub IsWishAnswer-solution : (menu : Declared) (text : List ℕ) (wishes : List Wish) (result : Result Answer Want) → IsReading text wishes
+    → IfOk result (IsSolveAnswer menu wishes) → IfOk result (IsWishAnswer menu text)
+IsWishAnswer-solution menu text wishes (Ok answer) reading given = inr (wishes, reading, given)
+IsWishAnswer-solution menu text wishes (Err want) reading given = tt

@@ -1,8 +1,0 @@
-use Rattle.std.proofs.Common.{◌≡◌, ◌⊎◌, true, sym, ◌∙◌, subst}
-use Rattle.std.specs.Prelude.{IfOk}
-use Rattle.br_run.specs.Answer.{IsAnswerOf, feed_failed}
-use Rattle.br_run.proofs.answer.answer_command.Goals as goal
-
-pub returns-then-is_run-clause-told : goal.returns-then-is_run-clause-told
-returns-then-is_run-clause-told g c = λ list left.
-    subst (λ run. IfOk c.answer_build.result (λ answer. IsAnswerOf run list answer ⊎ (answer ≡ feed_failed))) (sym (sym c.is_run.ensures ∙ c.if-is_run.true)) (c.answer_build.ensures.told list left)

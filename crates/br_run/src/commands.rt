@@ -1,0 +1,102 @@
+//! From words and a feed to an answer: which command is run, and over which files.
+ghost use Rattle.std.specs.Prelude.{◌≡◌, ◌≢◌, ℕ, ◌<◌, ◌⊎◌, List, Some, None, true, IfOk};
+ghost use Rattle.br_words.specs.Command.{IsCommand, IsMisfit};
+ghost use Rattle.feed_io.specs.declared.feed.FeedFile.{FeedFile};
+ghost use Rattle.feed_io.specs.Cause.{Rose};
+ghost use Rattle.kc_syntax.specs.Events.{AreSmall};
+ghost use Rattle.br_run.specs.Answer.{IsAnswer, IsCommandAnswer, IsFilesAnswer, IsListAnswer, IsPossible, bad_words, feed_failed, is_config, is_run};
+
+use crate::answer::{
+    Answer, answer_bad_input, answer_bad_words, answer_feed_failed, answer_not_yet,
+};
+use crate::build::answer_build;
+use crate::config::answer_config;
+use crate::report::read_fault_words;
+use crate::status::Status;
+use br_path::{Bytes, Files, Memory};
+use br_words::{Words, WordsFault};
+use feed_io::{Feed, ReadFault, read_all};
+use std::alloc::Global;
+
+/// Finds the answer to words and the files of a feed, which is asked only where the words are a command.
+pub fn answer_to<F: Feed>(alloc: Global, words: &[Bytes], feed: &mut F) -> Result<Answer, Memory>
+    ensures told { (list : List FeedFile) → F.left feed.old ≡ Some list → IfOk result (λ answer. IsAnswer words.now list answer ⊎ (answer ≡ feed_failed)) }
+    ensures misfit { (place : ℕ) → IsMisfit words.now place → IfOk result (λ answer. answer ≡ bad_words place) }
+    ensures possible { IfOk result IsPossible }
+    ensures no_image { IsCommand words.now Words.Config → IfOk result (λ answer. answer.image ≡ None) }
+    ensures cause { IfOk result (λ answer. answer ≡ feed_failed → Rose (F.faults feed.old) (F.faults feed.new)) }
+    ensures always { F.faults feed.old < F.faults feed.new → IfOk result (λ answer. answer ≡ feed_failed) }
+    ensures asked { (place : ℕ) → IsMisfit words.now place → feed.new ≡ feed.old }
+    ensures fits { IfOk result (λ answer. answer.status ≡ Status.BadWords → (place : ℕ) × IsMisfit words.now place) }
+{
+    match Words::read(words) {
+        Ok(command) => answer_command(alloc, &command, feed),
+        Err(fault) => match fault {
+            WordsFault::At(place) => answer_bad_words(alloc, place),
+            WordsFault::Memory => Err(Memory),
+        },
+    }
+}
+
+fn answer_command<F: Feed>(alloc: Global, command: &Words, feed: &mut F) -> Result<Answer, Memory>
+    ensures told { (list : List FeedFile) → F.left feed.old ≡ Some list → IfOk result (λ answer. IsCommandAnswer (is_run command.now) (is_config command.now) list answer ⊎ (answer ≡ feed_failed)) }
+    ensures possible { IfOk result IsPossible }
+    ensures no_image { command.now ≡ Words.Config → IfOk result (λ answer. answer.image ≡ None) }
+    ensures fits { IfOk result (λ answer. answer.status ≢ Status.BadWords) }
+    ensures cause { IfOk result (λ answer. answer ≡ feed_failed → Rose (F.faults feed.old) (F.faults feed.new)) }
+    ensures always { F.faults feed.old < F.faults feed.new → IfOk result (λ answer. answer ≡ feed_failed) }
+{
+    if is_run(command) {
+        return answer_list(alloc, is_config(command), feed);
+    }
+    answer_not_yet(alloc)
+}
+
+/// Whether the command is run so far: `config`, or `build` by one worker without a trace.
+fn is_run(command: &Words) -> bool
+    ensures { result ≡ is_run command.now }
+{
+    match command {
+        Words::Build { workers, trace } => *workers == 1 && !*trace,
+        Words::Config => true,
+        _ => false,
+    }
+}
+
+fn is_config(command: &Words) -> bool
+    ensures { result ≡ is_config command.now }
+{
+    matches!(command, Words::Config)
+}
+
+fn answer_list<F: Feed>(alloc: Global, config: bool, feed: &mut F) -> Result<Answer, Memory>
+    ensures told { (list : List FeedFile) → F.left feed.old ≡ Some list → IfOk result (λ answer. IsListAnswer config list answer ⊎ (answer ≡ feed_failed)) }
+    ensures possible { IfOk result IsPossible }
+    ensures no_image { config ≡ true → IfOk result (λ answer. answer.image ≡ None) }
+    ensures fits { IfOk result (λ answer. answer.status ≢ Status.BadWords) }
+    ensures cause { IfOk result (λ answer. answer ≡ feed_failed → Rose (F.faults feed.old) (F.faults feed.new)) }
+    ensures always { F.faults feed.old < F.faults feed.new → IfOk result (λ answer. answer ≡ feed_failed) }
+{
+    let files = match read_all(alloc, feed) {
+        Ok(files) => files,
+        Err(fault) => match fault {
+            ReadFault::Memory => return Err(Memory),
+            ReadFault::Feed => return answer_feed_failed(alloc),
+            other => return answer_bad_input(alloc, read_fault_words(alloc, &other)?),
+        },
+    };
+    answer_files(alloc, config, &files)
+}
+
+fn answer_files(alloc: Global, config: bool, files: &Files) -> Result<Answer, Memory>
+    requires { AreSmall files.now }
+    ensures answer { IfOk result (IsFilesAnswer config files.now) }
+    ensures possible { IfOk result IsPossible }
+    ensures no_image { config ≡ true → IfOk result (λ answer. answer.image ≡ None) }
+    ensures fits { IfOk result (λ answer. (answer.status ≢ Status.BadWords) × (answer.status ≢ Status.FeedFault)) }
+{
+    if config {
+        return answer_config(alloc, files);
+    }
+    answer_build(alloc, files)
+}

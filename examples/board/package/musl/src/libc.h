@@ -1,0 +1,2 @@
+/* the small library */
+int puts(const char *text);
