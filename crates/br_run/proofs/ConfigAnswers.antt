@@ -6,14 +6,13 @@ use Rattle.std.specs.FinMap as fin
 use Rattle.std.specs.Ordering.{eq_by_cmp}
 use Rattle.br_path.specs.declared.values.Memory.{Memory as Want}
 use Rattle.br_path.specs.Path.{Names, path_cmp}
-use Rattle.br_path.specs.Files.{FileMap}
+use Rattle.br_path.specs.Files.{FileMap, AreSmall}
 use Rattle.br_path.proofs.PathOrder.{path_total}
 use Rattle.feed_io.specs.declared.feed.FeedFile.{FeedFile}
 use Rattle.feed_io.specs.Reading.{IsFaultless, files_of, place_of, total_size}
 use Rattle.dot_config.specs.Reading.{IsReading}
 use Rattle.kc_menu.specs.Menu.{Declared}
 use Rattle.kc_menu.specs.declared.wishes.Wish.{Wish}
-use Rattle.kc_syntax.specs.Events.{AreSmall}
 use Rattle.kc_syntax.specs.Reading.{menu_of}
 use Rattle.br_run.specs.declared.answer.Answer.{Answer}
 use Rattle.br_run.specs.Answer.{IsConfigAnswer, IsSolveAnswer, IsWishAnswer, wishes_text}

@@ -3,7 +3,7 @@ ghost use Rattle.std.specs.Prelude.{◌≡◌, ◌≢◌, ℕ, ◌<◌, ◌⊎�
 ghost use Rattle.br_words.specs.Command.{IsCommand, IsMisfit};
 ghost use Rattle.feed_io.specs.declared.feed.FeedFile.{FeedFile};
 ghost use Rattle.feed_io.specs.Cause.{Rose};
-ghost use Rattle.kc_syntax.specs.Events.{AreSmall};
+ghost use Rattle.br_path.specs.Files.{AreSmall};
 ghost use Rattle.br_run.specs.Answer.{IsAnswer, IsCommandAnswer, IsFilesAnswer, IsListAnswer, IsPossible, bad_words, feed_failed, is_config, is_run};
 
 use crate::answer::{

@@ -1,6 +1,6 @@
 //! The command `config`: the lines of the configuration, or its first fault.
 ghost use Rattle.std.specs.Prelude.{◌≡◌, ◌≢◌, ◌<◌, ◌^◌, None, IfOk, length};
-ghost use Rattle.kc_syntax.specs.Events.{AreSmall};
+ghost use Rattle.br_path.specs.Files.{AreSmall};
 ghost use Rattle.br_run.specs.Answer.{IsConfigAnswer, IsPossible, IsSolveAnswer, IsWishAnswer, solved, wishes_text};
 
 use crate::answer::{Answer, answer_bad_input};

@@ -8,10 +8,10 @@ ghost use Rattle.kc_menu.specs.Menu.{IsAtomDefault};
 use crate::solver::{Solved, solve};
 use br_path::{Bytes, Memory};
 use kc_equations::SolveFault;
-use kc_expr::{Atom, Expr, Kind, Values};
+use kc_expr::{Atom, Expr, Kind};
 use kc_menu::{
     Choices, Entries, Exprs, KcChoice, KcDefault, KcDefaults, KcEntry, Menu, SymbolIf, SymbolIfs,
-    Wish, WishValue, Wishes,
+    Wishes,
 };
 use kc_text::is_text;
 use std::alloc::Global;
@@ -135,27 +135,9 @@ fn defaults_selects_and_choices_give_the_values(rt: HostRuntime) -> Result<(), F
         ),
         (
             false,
-            ("B", "", "A", "", ""),
-            ("A", "", "", "", ""),
-            ("n", "n", 0),
-        ),
-        (
-            false,
             ("B", "", "", "", "X"),
             ("A", "", "y", "B", ""),
             ("y", "y", 1),
-        ),
-        (
-            false,
-            ("B", "", "y", "X", "n"),
-            ("A", "", "B", "", ""),
-            ("n", "n", 0),
-        ),
-        (
-            true,
-            ("B", "y", "", "", ""),
-            ("A", "y", "", "", ""),
-            ("n", "y", 0),
         ),
         (
             true,
@@ -163,68 +145,12 @@ fn defaults_selects_and_choices_give_the_values(rt: HostRuntime) -> Result<(), F
             ("A", "", "", "", ""),
             ("y", "n", 0),
         ),
-        (
-            true,
-            ("B", "", "y", "", ""),
-            ("A", "", "y", "", ""),
-            ("n", "n", 0),
-        ),
     ] {
         match solved(alloc, Kind::Bool, inside, &[first, second]) {
             Ok(found) => assert!(rt; shows(&found, wanted.0, wanted.1, wanted.2)),
             Err(_) => assert!(rt; false),
         }
     }
-    Ok(())
-}
-
-fn wish(alloc: Global, symbol: &[u8], line: u32) -> Result<Wish, Memory>
-    ensures { IfOk result (λ w. (w.symbol ≡ symbol.now) × (w.line ≡ line)) }
-{
-    Ok(Wish {
-        symbol: Bytes::from_slice(alloc, symbol)?,
-        value: WishValue::Word(Bytes::from_slice(alloc, b"y")?),
-        line,
-    })
-}
-
-// That A is y, and C.
-fn wishes(alloc: Global) -> Result<Wishes, Memory> {
-    let mut items = Vec::new(alloc);
-    items.push(wish(alloc, b"A", 1)?)?;
-    items.push(wish(alloc, b"C", 2)?)?;
-    let wishes = Wishes::new(items);
-    Ok(wishes)
-}
-
-// Whether a choice takes this member: the default is B, and C isn't visible.
-fn takes(alloc: Global, wishes: &Wishes, member: &str) -> Result<bool, SolveFault> {
-    let rows = [
-        ("A", "y", "", "", ""),
-        ("B", "y", "", "", ""),
-        ("C", "y", "", "", "n"),
-    ];
-    let menu = menu(alloc, Kind::Bool, Some(0), &rows, "B")?;
-    let solved = solve(alloc, &menu, wishes)?;
-    Ok(is_only(&solved.values, member))
-}
-
-fn is_only(values: &Values, member: &str) -> bool {
-    for symbol in ["A", "B", "C"] {
-        let text = values.get(symbol.as_bytes()).unwrap_or(b"");
-        if is_text(text, b"y") != is_text(symbol.as_bytes(), member.as_bytes()) {
-            return false;
-        }
-    }
-    true
-}
-
-#[test]
-fn a_choice_takes_the_last_visible_wish(rt: HostRuntime) -> Result<(), Fail> {
-    let alloc = rt.alloc();
-    let silent = Wishes::new(Vec::new(alloc));
-    assert!(rt; matches!(takes(alloc, &silent, "B"), Ok(true)));
-    assert!(rt; matches!(takes(alloc, &wishes(alloc)?, "A"), Ok(true)));
     Ok(())
 }
 
@@ -242,7 +168,6 @@ fn is_fault(fault: &SolveFault, kind: &str, symbol: &str) -> bool {
 #[test]
 fn the_least_symbol_of_the_first_fault_is_named(rt: HostRuntime) -> Result<(), Fail> {
     let alloc = rt.alloc();
-    let long = "1234567890123456789";
     for (kind, inside, first, second, fault, symbol) in [
         (
             Kind::Bool,
@@ -254,34 +179,10 @@ fn the_least_symbol_of_the_first_fault_is_named(rt: HostRuntime) -> Result<(), F
         ),
         (
             Kind::Bool,
-            false,
-            ("B", "", "B", "", ""),
-            ("A", "", "", "", ""),
-            "cycle",
-            "B",
-        ),
-        (
-            Kind::Bool,
-            false,
-            ("B", "", "", "A", ""),
-            ("A", "", "", "B", ""),
-            "cycle",
-            "A",
-        ),
-        (
-            Kind::Bool,
             true,
             ("B", "", "", "A", ""),
             ("A", "", "", "B", ""),
             "choice",
-            "A",
-        ),
-        (
-            Kind::Bool,
-            true,
-            ("B", "", "", "", "A"),
-            ("A", "", "", "", ""),
-            "cycle",
             "A",
         ),
         (
@@ -299,22 +200,6 @@ fn the_least_symbol_of_the_first_fault_is_named(rt: HostRuntime) -> Result<(), F
             ("A", "", "7x", "", ""),
             "number",
             "A",
-        ),
-        (
-            Kind::Int,
-            false,
-            ("B", "", "--1", "", ""),
-            ("A", "", "-7", "", ""),
-            "number",
-            "B",
-        ),
-        (
-            Kind::Int,
-            false,
-            ("B", "", long, "", ""),
-            ("A", "", "", "", ""),
-            "number",
-            "B",
         ),
     ] {
         match solved(alloc, kind, inside, &[first, second]) {

@@ -8,5 +8,4 @@ pub mod Menus
 pub mod Moves
 pub mod Nested
 pub mod Runs
-pub mod Small
 pub mod Sources

@@ -6,13 +6,13 @@ use Rattle.std.specs.FinMap as fin
 use Rattle.std.specs.Option.{option_map, is_some}
 use Rattle.br_path.specs.Path.{Names, parts as path_parts}
 use Rattle.br_path.specs.PathFault.{path_fault}
-use Rattle.br_path.specs.Files.{FileMap}
+use Rattle.br_path.specs.Files.{FileMap, AreSmall}
 use Rattle.kc_syntax.specs.declared.error.KcError.{KcError}
 use Rattle.kc_syntax.specs.declared.error.KcError.TheVariants.{Fault, Memory}
 use Rattle.kc_syntax.specs.declared.error.KcFault.{KcFault}
 use Rattle.kc_syntax.specs.declared.error.KcKind.TheVariants.{NoFile, BadLine, Loop}
 use Rattle.kc_syntax.specs.Fault.{IsFault}
-use Rattle.kc_syntax.specs.Events.{Event, source_at, fault_at, file_events, file_at, source_events, is_reading, AreSmall, config_in, all_events}
+use Rattle.kc_syntax.specs.Events.{Event, source_at, fault_at, file_events, file_at, source_events, is_reading, config_in, all_events}
 use Rattle.kc_syntax.specs.State.{State}
 use Rattle.kc_syntax.specs.Step.{Outcome, step, source_step}
 use Rattle.kc_syntax.specs.Reading.{run}

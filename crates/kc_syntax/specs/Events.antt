@@ -1,5 +1,5 @@
 -- What is met in reading order: the lines of the files, each sourced file in its place.
-use Rattle.std.specs.Prelude.{ℕ, zero, suc, ◌<◌, ◌^◌, ◌≡◌, Bool, List, [], ◌∷◌, ◌++◌, length, flat_map, Option, Some, None, codes, if◌then◌else◌}
+use Rattle.std.specs.Prelude.{ℕ, zero, suc, ◌≡◌, Bool, List, [], ◌∷◌, ◌++◌, flat_map, Option, Some, None, codes, if◌then◌else◌}
 use Rattle.std.specs.List.{list_any}
 use Rattle.std.specs.Option.{option_map_or, is_some}
 use Rattle.std.specs.FinMap as fin
@@ -76,7 +76,3 @@ unfoldable pub all_events : FileMap → List Event
 all_events files =
     option_map_or (λ bytes. file_events (source_events 64 files (config_in ∷ [])) config_in bytes)
     (fin.get files config_in) (fault_at config_in 0 NoFile ∷ [])
-
--- no file has 2^31 bytes, so that its lines can be numbered
-abbrev pub AreSmall : FileMap → Type 0
-AreSmall files = (at : Names) (bytes : List ℕ) → fin.get files at ≡ Some bytes → length bytes < 2 ^ 31

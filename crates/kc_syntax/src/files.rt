@@ -1,7 +1,8 @@
 //! The files in reading order, each sourced file in its place.
 ghost use Rattle.std.specs.Prelude.{◌≡◌, ◌<◌, ◌^◌, [], ◌∷◌, ◌++◌, length, flat_map, OnOk, IfOk};
 ghost use Rattle.std.specs.Option.{option_map};
-ghost use Rattle.kc_syntax.specs.Events.{AreSmall, source_events, file_events, line_events, row_events, file_at, is_reading, config_in, all_events};
+ghost use Rattle.br_path.specs.Files.{AreSmall};
+ghost use Rattle.kc_syntax.specs.Events.{source_events, file_events, line_events, row_events, file_at, is_reading, config_in, all_events};
 ghost use Rattle.kc_syntax.specs.Reading.{run};
 ghost use Rattle.kc_syntax.specs.Shown.{seen, named};
 

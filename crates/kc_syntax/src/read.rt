@@ -1,9 +1,9 @@
 //! From the files to their menu.
 ghost use Rattle.std.specs.Prelude.{◌≡◌, ◌↔◌, List, ◌++◌, Ok, Err, IfOk, IfErr};
-ghost use Rattle.br_path.specs.Files.{FileMap};
+ghost use Rattle.br_path.specs.Files.{FileMap, AreSmall};
 ghost use Rattle.kc_menu.specs.Menu.{Declared};
 ghost use Rattle.kc_syntax.specs.declared.error.KcFault.{KcFault};
-ghost use Rattle.kc_syntax.specs.Events.{Event, AreSmall};
+ghost use Rattle.kc_syntax.specs.Events.{Event};
 ghost use Rattle.kc_syntax.specs.Grammar.{IsRead, IsFront, IsMenuOf, IsFirstFault};
 ghost use Rattle.kc_syntax.specs.Reading.{menu_of};
 ghost use Rattle.kc_syntax.specs.Shown.{Fails};

@@ -91,7 +91,7 @@ mutual
       (from_rest vars depth scope list ([], spent + 1 + cost) (items, spent + 1 + cost + more) (complete l [] (spent + 1 + cost) low))
       (looped_err vars (text_run vars depth) scope fault name body items w (spent + 1 + cost + more) (exact_each f [] []))
 
-  exact_named : {vars : Environment} {depth : ℕ} {scope : Scope} {spent : ℕ} {name : List ℕ} {fault : ExpandFault} → FailsNamed vars depth scope spent name fault →
+  pub exact_named : {vars : Environment} {depth : ℕ} {scope : Scope} {spent : ℕ} {name : List ℕ} {fault : ExpandFault} → FailsNamed vars depth scope spent name fault →
       spent ≤ cost_limit → (w : List ℕ) → named vars (text_run vars depth) scope name (w, spent) ≡ Err fault
   exact_named {vars} {depth} {scope} {spent} {name} (refused e) low w = ap (λ m. meant vars (text_run vars depth) scope name m (w, spent)) e
   exact_named {vars} {depth} {scope} {spent} {name} (met e) low w = ap (λ m. meant vars (text_run vars depth) scope name m (w, spent)) e

@@ -34,7 +34,7 @@ module _ (vars : Environment) (depth : ℕ) (scope : Scope) (text : List ℕ) wh
       let fits : length t.0 ≤ told.0 = length_value told.1 in
       omega arith
 
-  run_of_value : {bytes : List ℕ} {cost : ℕ} → HasValue vars depth scope text bytes cost → cost ≤ cost_limit → text_run vars depth scope text ([], 0) ≡ Ok (bytes, 0 + cost)
+  pub run_of_value : {bytes : List ℕ} {cost : ℕ} → HasValue vars depth scope text bytes cost → cost ≤ cost_limit → text_run vars depth scope text ([], 0) ≡ Ok (bytes, 0 + cost)
   run_of_value v low = complete_from v [] 0 (omega arith)
 
   two_states : {s t : State} → ◌≡◌ {A = Run} (Ok s) (Ok t) → s ≡ t

@@ -24,6 +24,6 @@ mutual
   length_inside (choice test one other value is condition branch) = omega arith
   length_inside (loop var list body name items parts is named listed each) = omega arith
 
-  length_named : {vars : Environment} {depth : ℕ} {scope : Scope} {name bytes : List ℕ} {cost : ℕ} → HasNamed vars depth scope name bytes cost → length bytes ≤ cost
+  pub length_named : {vars : Environment} {depth : ℕ} {scope : Scope} {name bytes : List ℕ} {cost : ℕ} → HasNamed vars depth scope name bytes cost → length bytes ≤ cost
   length_named (fixed is) = omega arith
   length_named (later text is value) = length_value value

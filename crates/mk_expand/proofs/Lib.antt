@@ -18,3 +18,7 @@ pub mod Rows
 pub mod Sorts
 pub mod Fits
 pub mod Finding
+pub mod NoMemory
+pub mod ByName
+pub mod Spelled
+pub mod References

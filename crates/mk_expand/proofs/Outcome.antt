@@ -83,7 +83,7 @@ module _ (vars : Environment) (depth : ℕ) (scope : Scope) (texts : TellsText v
       from_earlier (HasValue vars depth (with_active scope name) text) (FailsWith vars depth (with_active scope name) k text) w k (HasNamed vars depth scope name) (FailsNamed vars depth scope k name) k 0 (omega arith) (λ bytes cost h. let P : ℕ → Type 0 = HasNamed vars depth scope name bytes in subst P (let e : cost ≡ 0 + cost = omega arith in e) (later text e h)) (λ f h. later_fails text e h)
       (text_run vars depth (with_active scope name) text (w, k)) (texts (with_active scope name) text w k low)
 
-  tells_named : (name w : List ℕ) (k : ℕ) → k ≤ cost_limit → Tells (HasNamed vars depth scope name) (FailsNamed vars depth scope k name) w k (named vars (text_run vars depth) scope name (w, k))
+  pub tells_named : (name w : List ℕ) (k : ℕ) → k ≤ cost_limit → Tells (HasNamed vars depth scope name) (FailsNamed vars depth scope k name) w k (named vars (text_run vars depth) scope name (w, k))
   tells_named name w k low = tells_meant name w k (meaning vars scope name) refl low
 
   -- the values of arguments, at a state

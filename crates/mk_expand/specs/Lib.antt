@@ -13,3 +13,4 @@ pub mod Failure
 pub mod Pass
 pub mod Answer
 pub mod Shown
+pub mod Reference

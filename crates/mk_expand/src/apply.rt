@@ -8,11 +8,11 @@ ghost use Rattle.mk_expand.specs.Laws.{IsReplaced};
 ghost use Rattle.mk_expand.specs.Draft.{put, IsRun};
 ghost use Rattle.mk_expand.specs.Shown.{shown_spelling};
 
+use crate::blanks::words;
 use crate::draft::Draft;
 use crate::fault::ExpandFault;
 use crate::function::Function;
 use crate::pattern::{Spelling, exchanged, is_matched};
-use crate::words::words;
 use br_path::{Bytes, Memory, Names};
 use memchr::memmem;
 use std::alloc::Global;

@@ -8,10 +8,10 @@ ghost use Rattle.mk_expand.specs.Call.{divided, call_of, checked_call, inside_of
 ghost use Rattle.mk_expand.specs.Laws.{AreArguments};
 ghost use Rattle.mk_expand.specs.Shown.{shown_call};
 
+use crate::blanks;
 use crate::bracket::Bracket;
 use crate::fault::ExpandFault;
 use crate::function::Function;
-use crate::words;
 use br_path::{Bytes, Memory};
 use std::alloc::Global;
 
@@ -38,12 +38,12 @@ pub(crate) fn read_inside<'a>(
 ) -> Result<Called<'a>, Memory>
     ensures { IfOk result (λ inside. shown_call inside ≡ inside_of kind text.now) }
 {
-    let Some(place) = words::first_blank(text) else {
+    let Some(place) = blanks::first_blank(text) else {
         return Ok(Called::Name);
     };
     let (name, rest) = text.split_at(place);
     match Function::of_name(name) {
-        Some(function) => read_call(alloc, kind, function, words::skip_blanks(rest)),
+        Some(function) => read_call(alloc, kind, function, blanks::skip_blanks(rest)),
         None => Ok(Called::Name),
     }
 }
@@ -70,7 +70,7 @@ fn call_of<'a>(function: Function, args: Vec<&'a [u8]>) -> Called<'a>
     match function {
         Function::If => {
             Called::Choice(
-                words::trim(argument(&args, 0)),
+                blanks::trim(argument(&args, 0)),
                 argument(&args, 1),
                 argument(&args, 2),
             )

@@ -1,5 +1,5 @@
 //! The expansion: one pass over a text, with what stands inside a reference expanded in turn.
-ghost use Rattle.std.specs.Prelude.{◌≡◌, ◌≢◌, ℕ, ◌≤◌, List, [], length, map, IfOk, IfErr, OnOk};
+ghost use Rattle.std.specs.Prelude.{◌≡◌, ◌≢◌, ℕ, ◌≤◌, List, [], length, map, Ok, Err, IfOk, IfErr, OnOk};
 ghost use Rattle.mk_expand.specs.declared.fault.ExpandFault.TheVariants.{Memory as no_memory};
 ghost use Rattle.mk_expand.specs.Vars.{found};
 ghost use Rattle.mk_expand.specs.declared.scope.Scope.{Scope as ScopeValue};
@@ -8,9 +8,12 @@ ghost use Rattle.mk_expand.specs.Meaning.{Environment, with_active, with_local};
 ghost use Rattle.mk_expand.specs.Draft.{cost_limit, IsRun, IsGiven, IsAdded};
 ghost use Rattle.mk_expand.specs.Value.{depth_limit, chosen};
 ghost use Rattle.mk_expand.specs.Shown.{shown_piece, shown_call};
+ghost use Rattle.mk_expand.specs.declared.locals.Local.{Local};
+ghost use Rattle.mk_expand.specs.Reference.{text_of, given_name, reference_run, reference_answer, ReferenceIsExact};
 ghost use Rattle.mk_expand.specs.Pass.{piece_run, inside_run, text_run, too_deep, called, apart, named, by_name, one_value, all_values, strict_call, branch, choice_call, each, looped, loop_call};
 
 use crate::apply::put_applied;
+use crate::blanks::words;
 use crate::bracket::Bracket;
 use crate::call::{Called, check_argument, read_inside};
 use crate::draft::Draft;
@@ -20,7 +23,6 @@ use crate::locals::Locals;
 use crate::piece::{Piece, first_piece};
 use crate::scope::{Scope, is_bad_name, no_names};
 use crate::vars::Vars;
-use crate::words::words;
 use br_path::{Bytes, Names};
 use std::alloc::Global;
 
@@ -64,6 +66,61 @@ fn expand_within(
     expander.text(depth, text, &mut out)?;
     Ok(out.into_bytes())
 }
+
+/// The value of a reference to the variable of this name, which is taken as it is, with local names that hide variables.
+///
+/// A name that can be spelled has the value of `$(NAME)`; one that holds brackets, dollars or commas can't be spelled, and
+/// means no more than its bytes here. The reference costs 1 and 1 for each byte of the name, as where it is spelled.
+pub fn expand_reference(
+    alloc: Global,
+    vars: &Vars,
+    name: &[u8],
+    locals: &Locals,
+) -> Result<Bytes, ExpandFault>
+    ensures value { IfOk result (λ bytes. reference_answer (found vars.now) locals.now name.now ≡ Ok bytes) }
+    ensures length { IfOk result (λ bytes. length bytes ≤ cost_limit) }
+    ensures fault { IfErr result (λ fault. fault ≢ no_memory → reference_answer (found vars.now) locals.now name.now ≡ Err fault) }
+{
+    reference_within(alloc, vars, name, locals, DEPTH_LIMIT - 1)
+}
+
+// With so many references allowed in one another inside it.
+fn reference_within(
+    alloc: Global,
+    vars: &Vars,
+    name: &[u8],
+    locals: &Locals,
+    depth: u32,
+) -> Result<Bytes, ExpandFault>
+    ensures value { IfOk result (λ bytes. text_of (reference_run (found vars.now) depth locals.now name.now) ≡ Ok bytes) }
+    ensures length { IfOk result (λ bytes. length bytes ≤ cost_limit) }
+    ensures fault { IfErr result (λ fault. fault ≢ no_memory → text_of (reference_run (found vars.now) depth locals.now name.now) ≡ Err fault) }
+{
+    let given = given_name(alloc, name)?;
+    let mut out = Draft::new(alloc);
+    let name = out.take(given);
+    let scope = Scope::new(alloc, locals)?;
+    let mut expander = Expander { alloc, vars, scope };
+    expander.named(depth, name, &mut out)?;
+    Ok(out.into_bytes())
+}
+
+// A name, at the cost of a reference to it.
+fn given_name(alloc: Global, name: &[u8]) -> Result<Draft, ExpandFault>
+    ensures given { IfOk result (λ given. given_name name.now ≡ Ok given) }
+    ensures fault { IfErr result (λ fault. fault ≢ no_memory → given_name name.now ≡ Err fault) }
+{
+    let mut given = Draft::new(alloc);
+    given.pay()?;
+    given.put(name)?;
+    Ok(given)
+}
+
+/// A reference by name has the value and the fault of what the name stands for, and want of memory is none of them. Where
+/// the name is plain they are those of the text that spells the reference.
+pub fn reference_is_exact()
+    ensures { (vars : Environment) (locals : List Local) (name : List ℕ) → ReferenceIsExact vars locals name }
+{}
 
 /// A text has one answer: one value at one cost within the limit, or one fault. So `expand` gives that value wherever a text
 /// has one, and that fault wherever it fails, unless memory is wanting.

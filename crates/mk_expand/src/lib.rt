@@ -3,7 +3,8 @@
 //! A text is read from the left, piece by piece: a byte stands for itself, `$$` for a dollar, and `$(X)` or `${X}` for what
 //! its inside X says. X is a call where it begins with a function's name and a blank, and otherwise a text whose value is a
 //! variable's name. A local name hides every variable; a simple variable stands for its text, another for the value of its
-//! text where it is used, and an unset one for nothing.
+//! text where it is used, and an unset one for nothing. A reference can also be given by the variable's name as it is,
+//! which may then hold brackets, dollars and commas.
 //!
 //! Each expansion has a cost: 1 for a byte, for `$$`, for a reference and for a call, and then the cost of what a reference
 //! or call expands, the length of a simple or local text, and the length of a call's result. It ends with a fault as soon as
@@ -17,6 +18,7 @@
 #![tactic(auto)]
 
 mod apply;
+mod blanks;
 mod bracket;
 mod call;
 mod draft;
@@ -30,12 +32,12 @@ mod scope;
 #[cfg(test)]
 mod tests;
 mod vars;
-mod words;
 
 pub use apply::{sorts_rise, subst_replaces};
+pub use blanks::{is_blank, words};
 pub use bracket::first_comma_divides;
 pub use call::arguments_divide;
-pub use expander::{expand, one_answer};
+pub use expander::{expand, expand_reference, one_answer, reference_is_exact};
 pub use fault::ExpandFault;
 pub use locals::{Local, Locals};
 pub use vars::{Variable, Vars};

@@ -1,6 +1,6 @@
 //! Expansions whose values, costs and faults are known from outside.
 
-use crate::expander::expand;
+use crate::expander::{expand, expand_reference};
 use crate::fault::ExpandFault;
 use crate::locals::Locals;
 use crate::vars::Vars;
@@ -20,9 +20,9 @@ fn told(alloc: Global, kind: &str, name: &Bytes) -> Result<Bytes, Memory> {
     Ok(line)
 }
 
-/// The value of a text, or a line that tells its fault.
-fn outcome(alloc: Global, vars: &Vars, text: &str) -> Result<Bytes, Memory> {
-    match expand(alloc, vars, text.as_bytes(), &Locals::new(alloc)) {
+/// The value, or a line that tells the fault.
+fn line(alloc: Global, answer: Result<Bytes, ExpandFault>) -> Result<Bytes, Memory> {
+    match answer {
         Ok(value) => Ok(value),
         Err(ExpandFault::SelfReference(name)) => told(alloc, "! self-reference ", &name),
         Err(ExpandFault::BadCall) => bytes(alloc, "! bad-call"),
@@ -30,6 +30,12 @@ fn outcome(alloc: Global, vars: &Vars, text: &str) -> Result<Bytes, Memory> {
         Err(ExpandFault::TooCostly) => bytes(alloc, "! too-costly"),
         Err(ExpandFault::Memory) => Err(Memory),
     }
+}
+
+/// The value of a text, or a line that tells its fault.
+fn outcome(alloc: Global, vars: &Vars, text: &str) -> Result<Bytes, Memory> {
+    let answer = expand(alloc, vars, text.as_bytes(), &Locals::new(alloc));
+    line(alloc, answer)
 }
 
 /// `NAME = TEXT`.
@@ -75,47 +81,30 @@ fn some_vars(alloc: Global) -> Result<Vars, Memory> {
     Ok(vars)
 }
 
-const VALUES: [(&str, &str); 41] = [
-    ("", ""),
+const VALUES: [(&str, &str); 24] = [
     ("a$$b", "a$b"),
     ("$(A)", "one two"),
-    ("$(C)", "two one two"),
     ("${C}", "two one two"),
     ("$(NEW)$(S)$(UNSET)", "two$(B)"),
     ("$($(UNSET)A)", "one two"),
-    ("$(patsubst %.c,%.o,a.c b.h)", "a.o b.h"),
     ("$(patsubst a%a,<%>,a aa aba)", "a <> <b>"),
     ("$(patsubst a,b%,a ab)", "b% ab"),
-    ("$(patsubst a,,a b a)", "b"),
     ("$(filter-out b%,a b bc)", "a"),
     ("$(filter b% a,a b  bc d)", "a b bc"),
-    ("$(sort b a b)", "a b"),
     ("$(sort  bb b a\ta )", "a b bb"),
     ("$(foreach v,x y,<$(v)>)", "<x> <y>"),
-    ("$(foreach v,a b,)", " "),
-    ("$(foreach v ,x,$(v))", ""),
     ("$(foreach v,x y,$(V))", "x y"),
-    ("$(call qstrip,\" a  b \")", "a b"),
-    ("$(call qstrip,a,b)", "a"),
-    ("$(if ,t,f)", "f"),
-    ("$(if  ,t)", ""),
-    ("$(if $(UNSET) ,t,f)", "f"),
-    ("$(if a,t,$(ONE))", "t"),
-    ("$(subst a,bb,banana)", "bbbnbbnbb"),
-    ("$(subst aa,b,aaaaa)", "bba"),
-    ("$(subst a,b,c,a)", "c,b"),
-    ("$(strip  a \t b )", "a b"),
-    ("$(addprefix -I,a b)", "-Ia -Ib"),
-    ("$(addsuffix .o,a b)", "a.o b.o"),
-    ("$(addprefix a b,c)", "a bc"),
-    ("$(firstword  b a)", "b"),
-    ("$(firstword )", ""),
-    ("$(strip (a,b) c)", "(a,b) c"),
-    ("${strip {a} (}", "{a} ("),
     ("$(foreach ONE,x,$(TWO))", "x"),
-    ("$(strip)", ""),
+    ("$(call qstrip,\" a  b \")", "a b"),
+    ("$(if  ,t)", ""),
+    ("$(if a,t,$(ONE))", "t"),
+    ("$(subst aa,b,aaaaa)", "bba"),
+    ("$(strip  a \t b )", "a b"),
+    ("$(addprefix a b,c)", "a bc"),
+    ("$(addsuffix .o,a b)", "a.o b.o"),
+    ("$(firstword  b a)", "b"),
+    ("${strip {a} (}", "{a} ("),
     ("$(if a,(b,c),d)", "(b,c)"),
-    ("$(if a,{b,c},d)", "{b"),
     ("${if a,{b,c},d}", "{b,c}"),
 ];
 
@@ -133,23 +122,15 @@ fn texts_have_these_values(rt: HostRuntime) -> Result<(), Fail> {
     Ok(())
 }
 
-const FAULTS: [(&str, &str); 19] = [
-    ("$", "! unsupported "),
+const FAULTS: [(&str, &str); 11] = [
     ("a$b", "! unsupported "),
-    ("$(A", "! bad-call"),
     ("$(a(b)", "! bad-call"),
-    ("${strip {a}", "! bad-call"),
     ("$(A:x=y)", "! unsupported A:x=y"),
-    ("$( strip a)", "! unsupported  strip a"),
     ("$(info a)", "! unsupported info a"),
     ("$(call foo)", "! unsupported foo"),
     ("$(call qstrip)", "! bad-call"),
-    ("$(call )", "! unsupported "),
-    ("$(call qstrip ,a)", "! unsupported qstrip "),
     ("$(subst ,$(ONE),x)", "! bad-call"),
-    ("$(subst $(ONE),a)", "! bad-call"),
     ("$(filter a)", "! bad-call"),
-    ("$(ONE)", "! self-reference ONE"),
     ("$(if a,$(TWO),b)", "! self-reference TWO"),
     ("$(UNSET)$(A:)$", "! unsupported A:"),
     ("$(A $(ONE)", "! bad-call"),
@@ -165,6 +146,25 @@ fn texts_have_these_faults(rt: HostRuntime) -> Result<(), Fail> {
             want.as_bytes(),
             "{text}"
         );
+    }
+    Ok(())
+}
+
+/// Names that are taken as they are, with what a reference to each comes to.
+const NAMES: [(&str, &str); 4] = [
+    ("A", "one two"),
+    ("a)b", ""),
+    ("A:", "! unsupported A:"),
+    ("ONE", "! self-reference ONE"),
+];
+
+#[test]
+fn names_are_taken_as_they_are(rt: HostRuntime) -> Result<(), Fail> {
+    let alloc = rt.alloc();
+    let vars = some_vars(alloc)?;
+    for (name, want) in NAMES {
+        let answer = expand_reference(alloc, &vars, name.as_bytes(), &Locals::new(alloc));
+        assert_eq!(rt; line(alloc, answer)?.as_slice(), want.as_bytes(), "{name}");
     }
     Ok(())
 }
@@ -214,14 +214,11 @@ fn with_long(alloc: Global, mut vars: Vars, length: usize) -> Result<Vars, Fail>
 }
 
 /// Texts with their costs.
-const COSTS: [(&str, usize); 9] = [
+const COSTS: [(&str, usize); 6] = [
     ("$$a", 2),
-    ("$(UNSET)", 6),
     ("$($(UNSET)A)", 15),
-    ("$(if a,b)", 4),
     ("$(if a,b,$(ONE))", 4),
     ("$(strip a  b)", 8),
-    ("$(call qstrip,ab)", 11),
     ("$(foreach v,a b,$(v))", 14),
     ("$(C)", 17),
 ];

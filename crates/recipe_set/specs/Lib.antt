@@ -1,0 +1,9 @@
+pub mod Fault
+pub mod Names
+pub mod First
+pub mod Block
+pub mod Effect
+pub mod Reading
+pub mod Steps
+pub mod Found
+pub mod Forms

@@ -1,0 +1,11 @@
+pub mod WordSets
+pub mod ListLaws
+pub mod TextLaws
+pub mod PlaceLaws
+pub mod ChainLaws
+pub mod PickLaws
+pub mod EachLaws
+pub mod LeastLaws
+pub mod CheckLaws
+pub mod OneLaws
+pub mod RowLaws
