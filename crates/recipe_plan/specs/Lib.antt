@@ -1,0 +1,9 @@
+pub mod Answers
+pub mod Lines
+pub mod Texts
+pub mod Steps
+pub mod Needs
+pub mod Rows
+pub mod Planning
+pub mod Packages
+pub mod Owned
