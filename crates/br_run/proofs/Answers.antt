@@ -13,7 +13,7 @@ use Rattle.br_words.specs.Command.{IsCommand}
 use Rattle.br_run.specs.declared.answer.Answer.{Answer}
 use Rattle.br_run.specs.declared.status.Status.{Status}
 use Rattle.br_run.specs.declared.status.Status.TheVariants.{Done, PackagesFailed, Overwrites, BadInput, NoMemory, FeedFault, SinkFault, BadWords}
-use Rattle.br_run.specs.Answer.{IsAnswer, IsCommandAnswer, IsPossible, feed_failed, is_config, is_run}
+use Rattle.br_run.specs.Answer.{IsAnswer, IsCommandAnswer, IsPossible, feed_failed, is_run}
 use Rattle.br_run.specs.Out.{Gives, EndsEarly, IsRun}
 use Rattle.br_run.specs.Sinks.{Sinks, IsWritten, IsCutShort}
 
@@ -33,7 +33,7 @@ IfOk-same P answer (Err want) same holds = tt
 
 -- what a command gives is the answer to its words
 pub IsAnswer-command : (words : List (List ℕ)) (list : List FeedFile) (command : Words) (result : Result Answer Want) → IsCommand words command
-    → IfOk result (λ answer. IsCommandAnswer (is_run command) (is_config command) list answer ⊎ (answer ≡ feed_failed)) → IfOk result (λ answer. IsAnswer words list answer ⊎ (answer ≡ feed_failed))
+    → IfOk result (λ answer. IsCommandAnswer (is_run command) command list answer ⊎ (answer ≡ feed_failed)) → IfOk result (λ answer. IsAnswer words list answer ⊎ (answer ≡ feed_failed))
 IsAnswer-command words list command (Ok answer) is (inl given) = inl (inr (command, is, given))
 IsAnswer-command words list command (Ok answer) is (inr failed) = inr failed
 IsAnswer-command words list command (Err want) is given = tt

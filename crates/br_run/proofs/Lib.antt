@@ -1,7 +1,9 @@
 pub mod Answers
 pub mod Changes
-pub mod ConfigAnswers
 pub mod Entries
+pub mod FilesAnswers
 pub mod Folders
 pub mod Places
 pub mod Puts
+pub mod SmallFiles
+pub mod Told

@@ -1,30 +1,28 @@
 -- What the builder answers to words and to the files of a feed.
-use Rattle.std.specs.Prelude.{◌≡◌, ◌≢◌, ℕ, ◌⊎◌, Bool, true, false, ◌==◌, ◌&&◌, not, List, [], ◌∷◌, length, Some, None, Ok, Err, unwrap_or, codes}
+use Rattle.std.specs.Prelude.{◌≡◌, ◌≢◌, ℕ, ◌⊎◌, Bool, true, false, ◌==◌, ◌&&◌, not, List, length, Some, None, codes}
+use Rattle.br_path.specs.Files.{FileMap}
 use Rattle.br_words.specs.declared.command.Words.{Words}
-use Rattle.br_words.specs.declared.command.Words.TheVariants.{Build, Config}
+use Rattle.br_words.specs.declared.command.Words.TheVariants.{Build, Config, Plan, ShowDepends, ShowRecursive, ShowRdepends}
 use Rattle.br_words.specs.Command.{IsCommand, IsMisfit}
+use Rattle.build_report.specs.Plans.{plan_text, names_text}
+use Rattle.dot_config.specs.Writing.{config_text}
 use Rattle.feed_io.specs.declared.feed.FeedFile.{FeedFile}
 use Rattle.feed_io.specs.declared.read.ReadFault.{ReadFault}
 use Rattle.feed_io.specs.Reading.{IsFaultless, IsFirstReadFault, files_of}
-use Rattle.std.specs.FinMap as fin
-use Rattle.br_path.specs.Files.{FileMap}
-use Rattle.kc_expr.specs.Values.{Table}
-use Rattle.kc_menu.specs.Menu.{Declared}
-use Rattle.kc_menu.specs.declared.wishes.Wish.{Wish}
-use Rattle.kc_syntax.specs.declared.error.KcFault.{KcFault}
-use Rattle.kc_syntax.specs.Reading.{menu_of}
-use Rattle.dot_config.specs.Reading.{IsReading, IsFirstFault as IsFirstWishFault}
-use Rattle.dot_config.specs.Writing.{config_text}
-use Rattle.kc_equations.specs.declared.fault.SolveFault.{SolveFault}
-use Rattle.kc_equations.specs.declared.fault.SolveFault.TheVariants.{Memory}
-use Rattle.kc_equations.specs.Faults.{IsSolved, IsFirstFault as IsFirstSolveFault}
-use Rattle.image_text.specs.Image.{image_text}
 use Rattle.first_form.specs.declared.form.FirstForm.{FirstForm}
 use Rattle.first_form.specs.Form.{IsForm, form_files}
+use Rattle.image_text.specs.Image.{image_text}
+use Rattle.plan_rows.specs.Plan.{Planned}
 use Rattle.br_run.specs.declared.answer.Answer.{Answer}
+use Rattle.br_run.specs.declared.configuration.Configuration.{Configuration}
+use Rattle.br_run.specs.declared.fault.InputFault.{InputFault}
+use Rattle.br_run.specs.declared.fault.InputFault.TheVariants.{Told, Memory}
 use Rattle.br_run.specs.declared.status.Status.TheVariants.{Done, BadInput, NoMemory, FeedFault, SinkFault, BadWords}
-use Rattle.br_run.specs.Report.{fault_report, misfit_words, built_report, read_fault_words, menu_fault_words, wish_fault_words, solve_fault_words}
+use Rattle.br_run.specs.Configured.{IsConfiguration, IsConfigFault}
+use Rattle.br_run.specs.Planned.{IsInputFault, IsPlanOf}
+use Rattle.br_run.specs.Report.{fault_report, misfit_words, built_report, read_fault_words}
 use Rattle.br_run.specs.Root.{root_entries}
+use Rattle.br_run.specs.Shown.{Relation, Depends, DependsInSteps, IsDependedOn, AreShown, IsShowFault}
 
 -- the answer where the one package is built
 abbrev pub built : FirstForm → Answer
@@ -46,69 +44,80 @@ bad_words place = record { status = BadWords; report = fault_report (misfit_word
 abbrev pub bad_input : List ℕ → Answer
 bad_input fault = record { status = BadInput; report = fault_report fault 3; image = None }
 
+-- the answer that is a text: a command that puts no image writes no status where it succeeds
+abbrev pub written : List ℕ → Answer
+written text = record { status = Done; report = text; image = None }
+
+-- the answer to a fault of the input; to want of memory there is none
+abbrev pub IsFaultAnswer : InputFault → Answer → Type 0
+IsFaultAnswer (Told words) answer = answer ≡ bad_input words
+IsFaultAnswer Memory answer = ⊥
+
 -- the answer to files that are to be built: the package built, where they have the first form, or that it isn't built yet
 abbrev pub IsBuildAnswer : FileMap → Answer → Type 0
 IsBuildAnswer files answer =
     ((form : FirstForm) × IsForm form × (files ≡ form_files form) × (answer ≡ built form))
     ⊎ (((form : FirstForm) → IsForm form → files ≡ form_files form → ⊥) × (answer ≡ not_yet))
 
--- the text of the wishes: a missing `.config` is an empty one
-abbrev pub wishes_text : FileMap → List ℕ
-wishes_text files = unwrap_or (fin.get files (codes ".config" ∷ [])) []
+-- the answer to files whose configuration is asked for: its first fault, or the lines of its values
+pub data IsConfigAnswer (files : FileMap) : Answer → Type 0 where
+  no_values : (words : List ℕ) → IsConfigFault files words → IsConfigAnswer files (bad_input words)
+  values : (configuration : Configuration) → IsConfiguration files configuration →
+      IsConfigAnswer files (written (config_text configuration.menu.entries configuration.values))
 
--- the answer where the configuration is solved: the lines of its values, without a status
-abbrev pub solved : Declared → Table → Answer
-solved menu values = record { status = Done; report = config_text menu.entries values; image = None }
+-- the answer to files whose plan is asked for: their first fault, or the tasks in their order
+pub data IsPlanAnswer (files : FileMap) : Answer → Type 0 where
+  no_tasks : (words : List ℕ) → IsInputFault files words → IsPlanAnswer files (bad_input words)
+  tasks : (plan : Planned) → IsPlanOf files plan → IsPlanAnswer files (written (plan_text plan))
 
--- the answer to a menu and wishes: their first fault, or their solution
-abbrev pub IsSolveAnswer : Declared → List Wish → Answer → Type 0
-IsSolveAnswer menu wishes answer =
-    ((fault : SolveFault) × (fault ≢ Memory) × IsFirstSolveFault menu wishes fault × (answer ≡ bad_input (solve_fault_words fault)))
-    ⊎ ((values : Table) × (forced : List (List ℕ)) × IsSolved menu wishes values forced × (answer ≡ solved menu values))
+-- the answer to files of which packages are to be shown for the one of a name: why none are, or the packages
+pub data IsShowAnswer (Related : Relation) (name : List ℕ) (files : FileMap) : Answer → Type 0 where
+  no_packages : (words : List ℕ) → IsShowFault files name words → IsShowAnswer Related name files (bad_input words)
+  packages : (plan : Planned) (tasks : List ℕ) → IsPlanOf files plan → AreShown Related plan name tasks →
+      IsShowAnswer Related name files (written (names_text plan tasks))
 
--- the answer to a menu and the text of wishes: the text's first line of none of the forms, or what its wishes give
-abbrev pub IsWishAnswer : Declared → List ℕ → Answer → Type 0
-IsWishAnswer menu text answer =
-    ((line : ℕ) × IsFirstWishFault text line × (answer ≡ bad_input (wish_fault_words line)))
-    ⊎ ((wishes : List Wish) × IsReading text wishes × IsSolveAnswer menu wishes answer)
-
--- the answer to files whose configuration is asked for: the first fault of the configuration files, or what their menu and the
--- wishes give
-abbrev pub IsConfigAnswer : FileMap → Answer → Type 0
-IsConfigAnswer files answer =
-    ((fault : KcFault) × (menu_of files ≡ Err fault) × (answer ≡ bad_input (menu_fault_words fault)))
-    ⊎ ((menu : Declared) × (menu_of files ≡ Ok menu) × IsWishAnswer menu (wishes_text files) answer)
-
--- the commands that are run so far: `config`, and `build` by one worker without a trace
+-- the commands that are run so far: all but `build` by more workers than one or with a trace
 abbrev pub is_run : Words → Bool
 is_run (Build workers trace) = (workers == 1) && not trace
 is_run Config = true
-is_run _ = false
+is_run Plan = true
+is_run (ShowDepends name) = true
+is_run (ShowRecursive name) = true
+is_run (ShowRdepends name) = true
 
-abbrev pub is_config : Words → Bool
-is_config Config = true
-is_config _ = false
+abbrev pub is_build : Words → Bool
+is_build (Build workers trace) = true
+is_build Config = false
+is_build Plan = false
+is_build (ShowDepends name) = false
+is_build (ShowRecursive name) = false
+is_build (ShowRdepends name) = false
 
 -- the answer to the files of a command that is run
-abbrev pub IsFilesAnswer : Bool → FileMap → Answer → Type 0
-IsFilesAnswer true files answer = IsConfigAnswer files answer
-IsFilesAnswer false files answer = IsBuildAnswer files answer
+abbrev pub IsFilesAnswer : Words → FileMap → Answer → Type 0
+IsFilesAnswer (Build workers trace) = IsBuildAnswer
+IsFilesAnswer Config = IsConfigAnswer
+IsFilesAnswer Plan = IsPlanAnswer
+IsFilesAnswer (ShowDepends name) = IsShowAnswer Depends name
+IsFilesAnswer (ShowRecursive name) = IsShowAnswer DependsInSteps name
+IsFilesAnswer (ShowRdepends name) = IsShowAnswer IsDependedOn name
 
 -- the answer to a list of files: its first fault, or what its files give
-abbrev pub IsListAnswer : Bool → List FeedFile → Answer → Type 0
-IsListAnswer config list answer =
+abbrev pub IsListAnswer : Words → List FeedFile → Answer → Type 0
+IsListAnswer command list answer =
     ((fault : ReadFault) × IsFirstReadFault list fault × (answer ≡ bad_input (read_fault_words fault)))
-    ⊎ (IsFaultless list × IsFilesAnswer config (files_of list) answer)
+    ⊎ (IsFaultless list × IsFilesAnswer command (files_of list) answer)
 
-abbrev pub IsCommandAnswer : Bool → Bool → List FeedFile → Answer → Type 0
-IsCommandAnswer true config list answer = IsListAnswer config list answer
-IsCommandAnswer false config list answer = answer ≡ not_yet
+-- the answer to a list of files of a command, which is run or isn't yet
+abbrev pub IsCommandAnswer : Bool → Words → List FeedFile → Answer → Type 0
+IsCommandAnswer true command list answer = IsListAnswer command list answer
+IsCommandAnswer false command list answer = answer ≡ not_yet
 
 -- the answer to words and a list of files: the place of the first word that doesn't fit, or what their command gives
 abbrev pub IsAnswer : List (List ℕ) → List FeedFile → Answer → Type 0
 IsAnswer words list answer =
     ((place : ℕ) × IsMisfit words place × (answer ≡ bad_words place))
-    ⊎ ((command : Words) × IsCommand words command × IsCommandAnswer (is_run command) (is_config command) list answer)
+    ⊎ ((command : Words) × IsCommand words command × IsCommandAnswer (is_run command) command list answer)
 
 -- what holds of every answer: an image is put where all went well alone; the answer to a failed feed is one; and neither
 -- want of memory nor a failed sink is answered in words
@@ -117,3 +126,8 @@ pub record IsPossible (answer : Answer) : Type 0 where
   pub feed : answer.status ≡ FeedFault → answer ≡ feed_failed
   pub memory : answer.status ≢ NoMemory
   pub sink : answer.status ≢ SinkFault
+
+-- what holds of the answer of a command that puts no image
+pub record IsReport (answer : Answer) : Type 0 where
+  pub status : (answer.status ≡ Done) ⊎ (answer.status ≡ BadInput)
+  pub image : answer.image ≡ None

@@ -2,5 +2,9 @@ pub mod Status
 pub mod Report
 pub mod Sinks
 pub mod Root
+pub mod Fault
+pub mod Configured
+pub mod Planned
+pub mod Shown
 pub mod Answer
 pub mod Out

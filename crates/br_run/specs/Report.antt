@@ -68,3 +68,7 @@ solve_fault_words (solving.SelectOfValue symbol) = codes "select-of-value " ++ s
 solve_fault_words (solving.Cycle symbol) = codes "config-cycle " ++ symbol
 solve_fault_words (solving.BadNumber symbol) = codes "bad-number " ++ symbol
 solve_fault_words solving.Memory = []
+
+-- a package that the plan doesn't have
+abbrev pub no_package_words : List ℕ → List ℕ
+no_package_words name = codes "no-package " ++ name

@@ -1,7 +1,8 @@
 //! What is answered, before any of it is put.
 ghost use Rattle.std.specs.Prelude.{◌≡◌, IfOk};
-ghost use Rattle.br_run.specs.Answer.{bad_input, bad_words, feed_failed, not_yet};
+ghost use Rattle.br_run.specs.Answer.{IsFaultAnswer, bad_input, bad_words, feed_failed, not_yet, written};
 
+use crate::fault::InputFault;
 use crate::report::{fault_report, misfit_words};
 use crate::status::Status;
 use br_path::{Bytes, Memory};
@@ -51,6 +52,27 @@ pub(crate) fn answer_bad_input(alloc: Global, fault: Bytes) -> Result<Answer, Me
         report: fault_report(alloc, fault.as_slice(), Status::BadInput.number())?,
         image: None,
     })
+}
+
+/// The answer to a fault of the input.
+pub(crate) fn answer_fault(alloc: Global, fault: InputFault) -> Result<Answer, Memory>
+    ensures { IfOk result (IsFaultAnswer fault) }
+{
+    match fault {
+        InputFault::Told(words) => answer_bad_input(alloc, words),
+        InputFault::Memory => Err(Memory),
+    }
+}
+
+/// The answer that is a text: a command that puts no image writes no status where it succeeds.
+pub(crate) fn answer_text(report: Bytes) -> Answer
+    ensures { result ≡ written report }
+{
+    Answer {
+        status: Status::Done,
+        report,
+        image: None,
+    }
 }
 
 /// The answer to what isn't built yet.

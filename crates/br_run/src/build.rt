@@ -1,7 +1,7 @@
 //! The command `build`: the image of the files, where they have the first form.
-ghost use Rattle.std.specs.Prelude.{◌≡◌, ◌≢◌, IfOk};
+ghost use Rattle.std.specs.Prelude.{◌≡◌, IfOk};
 ghost use Rattle.first_form.specs.Form.{IsForm};
-ghost use Rattle.br_run.specs.Answer.{IsBuildAnswer, IsPossible, built};
+ghost use Rattle.br_run.specs.Answer.{IsBuildAnswer, built};
 
 use crate::answer::{Answer, answer_not_yet};
 use crate::report::built_report;
@@ -13,9 +13,7 @@ use std::alloc::Global;
 
 /// Finds the answer to files that are to be built.
 pub fn answer_build(alloc: Global, files: &Files) -> Result<Answer, Memory>
-    ensures answer { IfOk result (IsBuildAnswer files.now) }
-    ensures possible { IfOk result IsPossible }
-    ensures fits { IfOk result (λ answer. (answer.status ≢ Status.BadWords) × (answer.status ≢ Status.FeedFault)) }
+    ensures { IfOk result (IsBuildAnswer files.now) }
 {
     match FirstForm::of(alloc, files)? {
         Some(form) => answer_built(alloc, &form),

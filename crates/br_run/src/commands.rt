@@ -1,17 +1,22 @@
 //! From words and a feed to an answer: which command is run, and over which files.
-ghost use Rattle.std.specs.Prelude.{◌≡◌, ◌≢◌, ℕ, ◌<◌, ◌⊎◌, List, Some, None, true, IfOk};
+ghost use Rattle.std.specs.Prelude.{◌≡◌, ◌≢◌, ℕ, ◌<◌, ◌⊎◌, List, Some, None, false, IfOk};
+ghost use Rattle.br_words.specs.declared.command.Words.{Words as WordsValue};
 ghost use Rattle.br_words.specs.Command.{IsCommand, IsMisfit};
 ghost use Rattle.feed_io.specs.declared.feed.FeedFile.{FeedFile};
 ghost use Rattle.feed_io.specs.Cause.{Rose};
 ghost use Rattle.br_path.specs.Files.{AreSmall};
-ghost use Rattle.br_run.specs.Answer.{IsAnswer, IsCommandAnswer, IsFilesAnswer, IsListAnswer, IsPossible, bad_words, feed_failed, is_config, is_run};
+ghost use Rattle.br_run.specs.Answer.{IsAnswer, IsCommandAnswer, IsFilesAnswer, IsListAnswer, IsPossible, bad_words, feed_failed, is_build, is_run};
 
 use crate::answer::{
     Answer, answer_bad_input, answer_bad_words, answer_feed_failed, answer_not_yet,
 };
 use crate::build::answer_build;
 use crate::config::answer_config;
+use crate::plan::answer_plan;
 use crate::report::read_fault_words;
+use crate::show_depends::answer_depends;
+use crate::show_rdepends::answer_rdepends;
+use crate::show_recursive::answer_recursive;
 use crate::status::Status;
 use br_path::{Bytes, Files, Memory};
 use br_words::{Words, WordsFault};
@@ -23,7 +28,7 @@ pub fn answer_to<F: Feed>(alloc: Global, words: &[Bytes], feed: &mut F) -> Resul
     ensures told { (list : List FeedFile) → F.left feed.old ≡ Some list → IfOk result (λ answer. IsAnswer words.now list answer ⊎ (answer ≡ feed_failed)) }
     ensures misfit { (place : ℕ) → IsMisfit words.now place → IfOk result (λ answer. answer ≡ bad_words place) }
     ensures possible { IfOk result IsPossible }
-    ensures no_image { IsCommand words.now Words.Config → IfOk result (λ answer. answer.image ≡ None) }
+    ensures no_image { (command : WordsValue) → IsCommand words.now command → is_build command ≡ false → IfOk result (λ answer. answer.image ≡ None) }
     ensures cause { IfOk result (λ answer. answer ≡ feed_failed → Rose (F.faults feed.old) (F.faults feed.new)) }
     ensures always { F.faults feed.old < F.faults feed.new → IfOk result (λ answer. answer ≡ feed_failed) }
     ensures asked { (place : ℕ) → IsMisfit words.now place → feed.new ≡ feed.old }
@@ -39,40 +44,33 @@ pub fn answer_to<F: Feed>(alloc: Global, words: &[Bytes], feed: &mut F) -> Resul
 }
 
 fn answer_command<F: Feed>(alloc: Global, command: &Words, feed: &mut F) -> Result<Answer, Memory>
-    ensures told { (list : List FeedFile) → F.left feed.old ≡ Some list → IfOk result (λ answer. IsCommandAnswer (is_run command.now) (is_config command.now) list answer ⊎ (answer ≡ feed_failed)) }
+    ensures told { (list : List FeedFile) → F.left feed.old ≡ Some list → IfOk result (λ answer. IsCommandAnswer (is_run command.now) command.now list answer ⊎ (answer ≡ feed_failed)) }
     ensures possible { IfOk result IsPossible }
-    ensures no_image { command.now ≡ Words.Config → IfOk result (λ answer. answer.image ≡ None) }
+    ensures no_image { is_build command.now ≡ false → IfOk result (λ answer. answer.image ≡ None) }
     ensures fits { IfOk result (λ answer. answer.status ≢ Status.BadWords) }
     ensures cause { IfOk result (λ answer. answer ≡ feed_failed → Rose (F.faults feed.old) (F.faults feed.new)) }
     ensures always { F.faults feed.old < F.faults feed.new → IfOk result (λ answer. answer ≡ feed_failed) }
 {
     if is_run(command) {
-        return answer_list(alloc, is_config(command), feed);
+        return answer_list(alloc, command, feed);
     }
     answer_not_yet(alloc)
 }
 
-/// Whether the command is run so far: `config`, or `build` by one worker without a trace.
+/// Whether the command is run so far: all but `build` by more workers than one or with a trace.
 fn is_run(command: &Words) -> bool
     ensures { result ≡ is_run command.now }
 {
     match command {
         Words::Build { workers, trace } => *workers == 1 && !*trace,
-        Words::Config => true,
-        _ => false,
+        _ => true,
     }
 }
 
-fn is_config(command: &Words) -> bool
-    ensures { result ≡ is_config command.now }
-{
-    matches!(command, Words::Config)
-}
-
-fn answer_list<F: Feed>(alloc: Global, config: bool, feed: &mut F) -> Result<Answer, Memory>
-    ensures told { (list : List FeedFile) → F.left feed.old ≡ Some list → IfOk result (λ answer. IsListAnswer config list answer ⊎ (answer ≡ feed_failed)) }
+fn answer_list<F: Feed>(alloc: Global, command: &Words, feed: &mut F) -> Result<Answer, Memory>
+    ensures told { (list : List FeedFile) → F.left feed.old ≡ Some list → IfOk result (λ answer. IsListAnswer command.now list answer ⊎ (answer ≡ feed_failed)) }
     ensures possible { IfOk result IsPossible }
-    ensures no_image { config ≡ true → IfOk result (λ answer. answer.image ≡ None) }
+    ensures no_image { is_build command.now ≡ false → IfOk result (λ answer. answer.image ≡ None) }
     ensures fits { IfOk result (λ answer. answer.status ≢ Status.BadWords) }
     ensures cause { IfOk result (λ answer. answer ≡ feed_failed → Rose (F.faults feed.old) (F.faults feed.new)) }
     ensures always { F.faults feed.old < F.faults feed.new → IfOk result (λ answer. answer ≡ feed_failed) }
@@ -85,18 +83,19 @@ fn answer_list<F: Feed>(alloc: Global, config: bool, feed: &mut F) -> Result<Ans
             other => return answer_bad_input(alloc, read_fault_words(alloc, &other)?),
         },
     };
-    answer_files(alloc, config, &files)
+    answer_files(alloc, command, &files)
 }
 
-fn answer_files(alloc: Global, config: bool, files: &Files) -> Result<Answer, Memory>
+fn answer_files(alloc: Global, command: &Words, files: &Files) -> Result<Answer, Memory>
     requires { AreSmall files.now }
-    ensures answer { IfOk result (IsFilesAnswer config files.now) }
-    ensures possible { IfOk result IsPossible }
-    ensures no_image { config ≡ true → IfOk result (λ answer. answer.image ≡ None) }
-    ensures fits { IfOk result (λ answer. (answer.status ≢ Status.BadWords) × (answer.status ≢ Status.FeedFault)) }
+    ensures { IfOk result (IsFilesAnswer command.now files.now) }
 {
-    if config {
-        return answer_config(alloc, files);
+    match command {
+        Words::Build { .. } => answer_build(alloc, files),
+        Words::Config => answer_config(alloc, files),
+        Words::Plan => answer_plan(alloc, files),
+        Words::ShowDepends(name) => answer_depends(alloc, files, name.as_slice()),
+        Words::ShowRecursive(name) => answer_recursive(alloc, files, name.as_slice()),
+        Words::ShowRdepends(name) => answer_rdepends(alloc, files, name.as_slice()),
     }
-    answer_build(alloc, files)
 }

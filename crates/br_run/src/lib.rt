@@ -6,12 +6,24 @@
 #![tactic(auto)]
 
 mod answer;
+mod asked;
 mod build;
 mod commands;
 mod config;
+mod configuration;
+mod fault;
+#[cfg(test)]
+mod fixtures;
+mod plan;
+#[cfg(test)]
+mod plan_tests;
+mod planning;
 mod put;
 mod report;
 mod root;
+mod show_depends;
+mod show_rdepends;
+mod show_recursive;
 mod status;
 #[cfg(test)]
 mod tests;

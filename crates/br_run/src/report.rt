@@ -1,14 +1,14 @@
 //! The texts of reports.
-ghost use Rattle.std.specs.Prelude.{◌≡◌, ◌++◌, IfOk, OnOk};
-ghost use Rattle.br_path.specs.Path.{path_text};
+ghost use Rattle.std.specs.Prelude.{◌≡◌, ◌++◌, IfOk};
 ghost use Rattle.br_run.specs.Report as text;
 
 use crate::status::Status;
 use br_path::{Bytes, Memory, Path};
+use build_report::push_path;
 use feed_io::ReadFault;
 use kc_solve::SolveFault;
 use kc_syntax::{KcFault, KcKind};
-use std::alloc::{AllocError, Global};
+use std::alloc::Global;
 
 /// The report of a fault, by its words and the status's number.
 pub fn fault_report(alloc: Global, fault: &[u8], number: u8) -> Result<Bytes, Memory>
@@ -96,6 +96,15 @@ pub fn wish_fault_words(alloc: Global, line: u32) -> Result<Bytes, Memory>
     Ok(Bytes::from_slice(alloc, words.as_bytes())?)
 }
 
+/// The words of a package that the plan doesn't have.
+pub fn no_package_words(alloc: Global, name: &[u8]) -> Result<Bytes, Memory>
+    ensures { IfOk result (λ b. b ≡ text.no_package_words name.now) }
+{
+    let mut words = Vec::from_slice(alloc, b"no-package ")?;
+    words.extend_from_slice(name)?;
+    Ok(Bytes { items: words })
+}
+
 /// The words of a fault of the solution, with its symbol.
 pub fn solve_fault_words(alloc: Global, fault: &SolveFault) -> Result<Bytes, Memory>
     ensures { IfOk result (λ b. b ≡ text.solve_fault_words fault.now) }
@@ -116,21 +125,6 @@ fn symbol_words(alloc: Global, fault: &[u8], symbol: &Bytes) -> Result<Bytes, Me
     let mut words = Vec::from_slice(alloc, fault)?;
     words.extend_from_slice(symbol.as_slice())?;
     Ok(Bytes { items: words })
-}
-
-// A path's names with a slash between two.
-fn push_path(text: &mut Vec<u8>, at: &Path) -> Result<(), AllocError>
-    ensures { OnOk result (text.new.items ≡ text.old.items ++ path_text at.now) }
-{
-    let mut rest = at.names();
-    while let Some((name, tail)) = rest.split_first() {
-        text.extend_from_slice(name.as_slice())?;
-        if !tail.is_empty() {
-            text.push(b'/')?;
-        }
-        rest = tail;
-    }
-    Ok(())
 }
 
 /// The report of one package that was built, with the number of the image's entries.

@@ -1,10 +1,9 @@
-//! Whole runs over feeds and sinks in memory.
+//! Whole runs: `build`, `config`, and words that are no command.
 
-use crate::top::run;
-use br_path::{Bytes, Memory, Names, Numbers};
-use feed_io::{FeedFile, FeedFiles, MemoryFeed, MemorySink};
+use crate::fixtures::{Failing, check_failing, check_report, files};
+use br_path::Memory;
+use feed_io::FeedFiles;
 use std::alloc::Global;
-use std::process::Abort;
 use std::test::Fail;
 
 const REPORT: &str = "build 1\nbuilt hello\nimage 4\nstatus 0\n";
@@ -58,115 +57,28 @@ fn hello(alloc: Global) -> Result<FeedFiles, Memory> {
     )
 }
 
-fn files(alloc: Global, texts: &[(&str, &str)]) -> Result<FeedFiles, Memory> {
-    let mut items = Vec::new(alloc);
-    for (path, text) in texts {
-        items.push(FeedFile {
-            path: Bytes::from_slice(alloc, path.as_bytes())?,
-            bytes: Bytes::from_slice(alloc, text.as_bytes())?,
-        })?;
-    }
-    Ok(FeedFiles { items })
-}
-
-fn words(alloc: Global, all: &[&str]) -> Result<Names, Memory> {
-    let mut items = Vec::new(alloc);
-    for word in all {
-        items.push(Bytes::from_slice(alloc, word.as_bytes())?)?;
-    }
-    Ok(Names { items })
-}
-
-/// A list of one call at which a feed or sink fails; at 0 there is none.
-fn call(alloc: Global, number: u32) -> Result<Numbers, Memory> {
-    Ok(Numbers {
-        items: Vec::from_slice(alloc, &[number])?,
-    })
-}
-
-/// Sinks for a report, which takes 8 bytes a put and fails at this call, and for an image, with this room.
-fn sinks(alloc: Global, out_fails: u32, room: u32) -> Result<(MemorySink, MemorySink), Memory> {
-    let out = MemorySink::new(alloc, 1000, 8, call(alloc, out_fails)?)?;
-    let image = MemorySink::new(alloc, room, 16, call(alloc, 0)?)?;
-    Ok((out, image))
-}
-
-/// Asserts what a run leaves, by its status, its report and its image.
-fn assert_held(
-    rt: &impl Abort,
-    status: u8,
-    sinks: &(MemorySink, MemorySink),
-    wanted: (u8, &str, &str),
-) {
-    assert_eq!(rt; status, wanted.0);
-    assert_eq!(rt; sinks.0.held(), wanted.1.as_bytes());
-    assert_eq!(rt; sinks.1.held(), wanted.2.as_bytes());
-}
-
-/// Builds the package hello over a feed and sinks that fail so, and asserts what is left.
-fn check_hello(
-    rt: &impl Abort,
-    alloc: Global,
-    feed_fails: u32,
-    out_fails: u32,
-    room: u32,
-    wanted: (u8, &str, &str),
-) -> Result<(), Memory> {
-    let build = words(alloc, &["build"])?;
-    let mut feed = MemoryFeed::new(hello(alloc)?, call(alloc, feed_fails)?);
-    let mut sinks = sinks(alloc, out_fails, room)?;
-    let status = run(alloc, &build.items, &mut feed, &mut sinks.0, &mut sinks.1);
-    assert_held(rt, status.number(), &sinks, wanted);
-    Ok(())
-}
-
-/// Asserts the report of a run that puts no image.
-fn check_report(
-    rt: &impl Abort,
-    alloc: Global,
-    all: &[&str],
-    files: FeedFiles,
-    wanted: (u8, &str),
-) -> Result<(), Memory> {
-    let words = words(alloc, all)?;
-    let mut feed = MemoryFeed::new(files, call(alloc, 0)?);
-    let mut sinks = sinks(alloc, 0, 1000)?;
-    let status = run(alloc, &words.items, &mut feed, &mut sinks.0, &mut sinks.1);
-    assert_held(rt, status.number(), &sinks, (wanted.0, wanted.1, ""));
-    Ok(())
-}
-
-/// Asserts the report of `config` over `Config.in` and `.config`, which is missing where nothing is wished.
-fn check_config(
-    rt: &impl Abort,
-    alloc: Global,
-    menu: &str,
-    wishes: &str,
-    wanted: (u8, &str),
-) -> Result<(), Memory> {
-    let files = if wishes.is_empty() {
-        files(alloc, &[("Config.in", menu)])?
-    } else {
-        files(alloc, &[("Config.in", menu), (".config", wishes)])?
-    };
-    check_report(rt, alloc, &["config"], files, wanted)
-}
-
 #[test]
-fn one_package_installs_one_file(rt: HostRuntime) -> Result<(), Fail> {
-    check_hello(&rt, rt.alloc(), 0, 0, 1000, (0, REPORT, IMAGE))?;
-    Ok(())
-}
-
-#[test]
-fn other_commands_are_not_yet_run(rt: HostRuntime) -> Result<(), Fail> {
+fn one_package_is_built_unless_the_feed_or_a_sink_fails(rt: HostRuntime) -> Result<(), Fail> {
     let alloc = rt.alloc();
-    for all in [
-        ["plan"].as_slice(),
-        &["show-depends", "hello"],
-        &["build", "-j", "2"],
-        &["build", "--trace"],
+    let front = "rootfs 1\nd 0755 /\nd 0755 /usr\nd 0755 /us";
+    for (feed, out, room, wanted) in [
+        (0, 0, 85, (0, REPORT, IMAGE)),
+        (1, 0, 85, (5, FEED_FAULT, "")),
+        (6, 0, 85, (5, FEED_FAULT, "")),
+        (7, 0, 85, (0, REPORT, IMAGE)),
+        (0, 2, 85, (6, "build 1\n", IMAGE)),
+        (0, 0, 40, (6, "", front)),
     ] {
+        let failing = Failing { feed, out, room };
+        check_failing(&rt, alloc, failing, &["build"], hello(alloc)?, wanted)?;
+    }
+    Ok(())
+}
+
+#[test]
+fn other_options_are_not_yet_run(rt: HostRuntime) -> Result<(), Fail> {
+    let alloc = rt.alloc();
+    for all in [["build", "-j", "2"].as_slice(), &["build", "--trace"]] {
         check_report(&rt, alloc, all, hello(alloc)?, (3, NOT_YET))?;
     }
     Ok(())
@@ -175,20 +87,13 @@ fn other_commands_are_not_yet_run(rt: HostRuntime) -> Result<(), Fail> {
 #[test]
 fn words_that_are_no_command_are_named(rt: HostRuntime) -> Result<(), Fail> {
     let alloc = rt.alloc();
-    check_report(
-        &rt,
-        alloc,
-        &[],
-        files(alloc, &[])?,
-        (7, "fault words 0\nstatus 7\n"),
-    )?;
-    for all in [
-        ["build", "-j"].as_slice(),
-        &["build", "-j", "0"],
-        &["build", "-j", "65"],
-        &["build", "-j", "064"],
+    for (all, report) in [
+        (["build", "-j"].as_slice(), "fault words 2\nstatus 7\n"),
+        (&["build", "-j", "0"], "fault words 2\nstatus 7\n"),
+        (&["build", "-j", "65"], "fault words 2\nstatus 7\n"),
+        (&["build", "-j", "064"], "fault words 2\nstatus 7\n"),
+        (&[], "fault words 0\nstatus 7\n"),
     ] {
-        let report = "fault words 2\nstatus 7\n";
         check_report(&rt, alloc, all, files(alloc, &[])?, (7, report))?;
     }
     Ok(())
@@ -197,21 +102,19 @@ fn words_that_are_no_command_are_named(rt: HostRuntime) -> Result<(), Fail> {
 #[test]
 fn files_that_are_no_input_are_named(rt: HostRuntime) -> Result<(), Fail> {
     let alloc = rt.alloc();
-    for (command, first, second, report) in [
-        ("build", "Config.in", ".config", NOT_YET),
-        ("build", "a/b", "a", "fault twice a\nstatus 3\n"),
-        ("build", "a/b", "a/..", "fault path 1\nstatus 3\n"),
-        ("config", "a", "a", "fault twice a\nstatus 3\n"),
-        ("config", "a/../b", "a", "fault path 0\nstatus 3\n"),
+    for (first, second, report) in [
+        ("Config.in", ".config", NOT_YET),
+        ("a/b", "a", "fault twice a\nstatus 3\n"),
+        ("a/../b", "a", "fault path 0\nstatus 3\n"),
     ] {
         let files = files(alloc, &[(first, ""), (second, "")])?;
-        check_report(&rt, alloc, &[command], files, (3, report))?;
+        check_report(&rt, alloc, &["build"], files, (3, report))?;
     }
     Ok(())
 }
 
 #[test]
-fn a_configuration_is_its_lines(rt: HostRuntime) -> Result<(), Fail> {
+fn a_configuration_is_its_lines_or_its_first_fault(rt: HostRuntime) -> Result<(), Fail> {
     let alloc = rt.alloc();
     let unmet = "config BR2_ARM
 \tbool
@@ -222,83 +125,41 @@ config BR2_PACKAGE_B
 \tbool \"b\"
 \tdepends on BR2_ARM
 ";
-    for (menu, wishes, report) in [
-        ("", "", ""),
+    let both = "BR2_PACKAGE_A=y\nBR2_PACKAGE_B=y\n";
+    let member =
+        "config A\n\tbool \"a\"\n\tselect B\nchoice\n\tprompt \"one\"\nconfig B\n\tbool \"b\"\nendchoice\n";
+    let value = "config A\n\tbool \"a\"\n\tselect N\nconfig N\n\tint \"n\"\n";
+    for (menu, wishes, status, report) in [
+        (unmet, "BR2_PACKAGE_A=y\n", 0, both),
         (
-            unmet,
-            "BR2_PACKAGE_A=y\n",
-            "BR2_PACKAGE_A=y\nBR2_PACKAGE_B=y\n",
+            LIBC,
+            "",
+            0,
+            "# C_A is not set\nC_B=y\nNAME=\"x\\\"y\"\nN=3\n",
         ),
-        (LIBC, "", "# C_A is not set\nC_B=y\nNAME=\"x\\\"y\"\nN=3\n"),
         (
             LIBC,
             "C_A=y\nC_C=y\n",
+            0,
             "C_A=y\n# C_B is not set\nNAME=\"\"\nN=3\n",
         ),
+        (member, "", 3, "fault select-of-choice B\nstatus 3\n"),
+        (value, "N=x\n", 3, "fault select-of-value N\nstatus 3\n"),
+        (LIBC, "N=x\n", 3, "fault bad-number N\nstatus 3\n"),
     ] {
-        check_config(&rt, alloc, menu, wishes, (0, report))?;
+        let texts = [
+            ("Config.in", menu),
+            (".config", wishes),
+            // It is no recipe, which nobody asks here.
+            ("package/a/a.mk", "include x\n"),
+        ];
+        check_report(
+            &rt,
+            alloc,
+            &["config"],
+            files(alloc, &texts)?,
+            (status, report),
+        )?;
     }
-    Ok(())
-}
-
-#[test]
-fn a_faulty_configuration_is_its_first_fault(rt: HostRuntime) -> Result<(), Fail> {
-    let alloc = rt.alloc();
-    let cycle = "config BR2_PACKAGE_X
-\tbool \"x\"
-\tdepends on BR2_PACKAGE_Y
-config BR2_PACKAGE_Y
-\tbool \"y\"
-\tdepends on BR2_PACKAGE_X
-";
-    let member = "config A
-\tbool \"a\"
-\tselect B
-choice
-\tprompt \"one\"
-config B
-\tbool \"b\"
-endchoice
-";
-    let value = "config A
-\tbool \"a\"
-\tselect N
-config N
-\tint \"n\"
-";
-    for (menu, wishes, report) in [
-        (
-            "config A\nbool \"a\"\nrange 1 2\n",
-            "FOO\n",
-            "fault config Config.in 3 bad-line\nstatus 3\n",
-        ),
-        (cycle, "FOO\n", "fault wish 1\nstatus 3\n"),
-        (member, "", "fault select-of-choice B\nstatus 3\n"),
-        (value, "N=x\n", "fault select-of-value N\nstatus 3\n"),
-        (cycle, "", "fault config-cycle BR2_PACKAGE_X\nstatus 3\n"),
-        (LIBC, "N=x\n", "fault bad-number N\nstatus 3\n"),
-    ] {
-        check_config(&rt, alloc, menu, wishes, (3, report))?;
-    }
-    Ok(())
-}
-
-#[test]
-fn a_feed_that_fails_at_any_call_gives_its_fault(rt: HostRuntime) -> Result<(), Fail> {
-    let alloc = rt.alloc();
-    for number in 1..=6 {
-        check_hello(&rt, alloc, number, 0, 1000, (5, FEED_FAULT, ""))?;
-    }
-    check_hello(&rt, alloc, 7, 0, 1000, (0, REPORT, IMAGE))?;
-    Ok(())
-}
-
-#[test]
-fn a_sink_that_fails_holds_a_front_of_its_text(rt: HostRuntime) -> Result<(), Fail> {
-    let alloc = rt.alloc();
-    let front = "rootfs 1\nd 0755 /\nd 0755 /usr\nd 0755 /us";
-    check_hello(&rt, alloc, 0, 2, 1000, (6, "build 1\n", IMAGE))?;
-    check_hello(&rt, alloc, 0, 0, 40, (6, "", front))?;
-    check_hello(&rt, alloc, 0, 0, 85, (0, REPORT, IMAGE))?;
     Ok(())
 }

@@ -1,12 +1,12 @@
 //! The top call.
-ghost use Rattle.std.specs.Prelude.{◌≡◌, ◌≢◌, ℕ, ◌<◌, ◌⊎◌, List, Some, codes};
+ghost use Rattle.std.specs.Prelude.{◌≡◌, ◌≢◌, ℕ, ◌<◌, ◌⊎◌, List, Some, false, codes};
 ghost use Rattle.feed_io.specs.declared.feed.FeedFile.{FeedFile};
 ghost use Rattle.feed_io.specs.Cause.{Rose};
 ghost use Rattle.feed_io.specs.Sink.{Appended};
 ghost use Rattle.br_run.specs.declared.answer.Answer.{Answer as AnAnswer};
-ghost use Rattle.br_words.specs.declared.command.Words.TheVariants.{Config};
+ghost use Rattle.br_words.specs.declared.command.Words.{Words as WordsValue};
 ghost use Rattle.br_words.specs.Command.{IsCommand, IsMisfit};
-ghost use Rattle.br_run.specs.Answer.{IsPossible, feed_failed};
+ghost use Rattle.br_run.specs.Answer.{IsPossible, feed_failed, is_build};
 ghost use Rattle.br_run.specs.Out.{Gives, IsRun};
 ghost use Rattle.br_run.specs.Report.{fault_report, misfit_words};
 ghost use Rattle.br_run.specs.Sinks.{sinks, IsCutShort};
@@ -20,10 +20,10 @@ use std::alloc::Global;
 
 /// Runs the builder: reads the files of a feed, and puts an image and a report.
 ///
-/// The words are those behind the program's name. So far two commands are run. `config` reports the lines of the configuration, and puts
-/// no image. `build` by one worker without a trace builds input of the first form. To other commands, and to other input that is to be
-/// built, the report says `fault not-yet`. The image is put first, and the report behind it; both are made before the
-/// first put, so that after `NoMemory` the sinks are as before.
+/// The words are those behind the program's name. `config` reports the lines of the configuration, `plan` the tasks in their order, and
+/// the show commands the packages that are asked for; they put no image. `build` by one worker without a trace builds input of the
+/// first form. To other options of `build`, and to other input that is to be built, the report says `fault not-yet`. The image is
+/// put first, and the report behind it; both are made before the first put, so that after `NoMemory` the sinks are as before.
 pub fn run<F: Feed, O: Sink, I: Sink>(
     alloc: Global,
     words: &[Bytes],
@@ -53,7 +53,7 @@ pub fn run<F: Feed, O: Sink, I: Sink>(
         × (answer ≡ feed_failed → Rose (F.faults feed.old) (F.faults feed.new)) × (F.faults feed.old < F.faults feed.new → answer ≡ feed_failed)
         × IsCutShort answer (sinks (I.held image.old) (I.held image.new) (O.held out.old) (O.held out.new)) }
     ensures no_image { result ≢ Status.Done → result ≢ Status.SinkFault → image.new ≡ image.old }
-    ensures config { IsCommand words.now Config → image.new ≡ image.old }
+    ensures no_build { (command : WordsValue) → IsCommand words.now command → is_build command ≡ false → image.new ≡ image.old }
     ensures words { (place : ℕ) → IsMisfit words.now place → (feed.new ≡ feed.old) × ((result ≡ Status.BadWords) ⊎ (result ≡ Status.SinkFault) ⊎ (result ≡ Status.NoMemory)) }
     ensures bad_words { result ≡ Status.BadWords → (place : ℕ) × IsMisfit words.now place × Appended (O.held out.old) (fault_report (misfit_words place) 7) (O.held out.new) }
 {

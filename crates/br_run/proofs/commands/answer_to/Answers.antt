@@ -1,7 +1,7 @@
-use Rattle.std.proofs.Common.{◌≡◌, subst}
+use Rattle.std.proofs.Common.{◌≡◌, ap, ◌∙◌, subst}
 use Rattle.std.specs.Prelude.{IfOk}
 use Rattle.br_words.proofs.OneAnswer.{has_one_answer}
-use Rattle.br_run.specs.Answer.{bad_words}
+use Rattle.br_run.specs.Answer.{bad_words, is_build}
 use Rattle.br_run.proofs.Answers.{IsAnswer-command}
 use Rattle.br_run.proofs.commands.answer_to.Goals as goal
 
@@ -14,4 +14,5 @@ returns-in-At-clause-misfit g c = λ place misfit.
     subst (λ p. IfOk c.answer_bad_words.result (λ answer. answer ≡ bad_words p)) ((has_one_answer _).place _ _ found misfit) c.answer_bad_words.ensures
 
 pub returns-in-Ok-clause-no_image : goal.returns-in-Ok-clause-no_image
-returns-in-Ok-clause-no_image g c = λ is. c.answer_command.ensures.no_image ((has_one_answer _).command _ _ c.in-Ok.ensures is)
+returns-in-Ok-clause-no_image g c = λ command is other.
+    c.answer_command.ensures.no_image (ap is_build ((has_one_answer _).command _ _ c.in-Ok.ensures is) ∙ other)

@@ -1,6 +1,6 @@
 use Rattle.std.proofs.Common.{◌≡◌, ◌++◌, length}
 use Rattle.br_path.specs.Path.{path_text}
-use Rattle.br_run.proofs.report.push_path.Given as goal
+use Rattle.build_report.proofs.paths.push_path.Given as goal
 
 -- what is left completes the text
 abbrev pub invariant-loop-name : goal.invariant-loop-name

@@ -1,21 +1,13 @@
--- The files of a list are small, and what the parts of a configuration give is the answer to its files.
-use Rattle.std.proofs.Common.{ℕ, ◌≡◌, ◌+◌, ◌≤◌, inr, true, false, cond, List, [], ◌∷◌, length, map, Some, Result, Ok, Err, sym, ap, ◌∙◌, subst, arith}
-use Rattle.std.specs.Prelude.{IfOk}
+-- The files of a list are small.
+use Rattle.std.proofs.Common.{ℕ, ◌≡◌, ◌+◌, ◌≤◌, true, false, cond, List, [], ◌∷◌, length, map, Some, sym, ap, ◌∙◌, arith}
 use Rattle.std.proofs.lemmas.List.Sums.{sum_by-append}
 use Rattle.std.specs.FinMap as fin
 use Rattle.std.specs.Ordering.{eq_by_cmp}
-use Rattle.br_path.specs.declared.values.Memory.{Memory as Want}
 use Rattle.br_path.specs.Path.{Names, path_cmp}
 use Rattle.br_path.specs.Files.{FileMap, AreSmall}
 use Rattle.br_path.proofs.PathOrder.{path_total}
 use Rattle.feed_io.specs.declared.feed.FeedFile.{FeedFile}
 use Rattle.feed_io.specs.Reading.{IsFaultless, files_of, place_of, total_size}
-use Rattle.dot_config.specs.Reading.{IsReading}
-use Rattle.kc_menu.specs.Menu.{Declared}
-use Rattle.kc_menu.specs.declared.wishes.Wish.{Wish}
-use Rattle.kc_syntax.specs.Reading.{menu_of}
-use Rattle.br_run.specs.declared.answer.Answer.{Answer}
-use Rattle.br_run.specs.Answer.{IsConfigAnswer, IsSolveAnswer, IsWishAnswer, wishes_text}
 
 found_small : (list : List FeedFile) (at : Names) (bytes : List ℕ) → fin.find path_cmp at (map (λ file. (place_of file, file.bytes)) list) ≡ Some bytes → length bytes ≤ total_size list
 found_small [] at bytes found = absurd cc
@@ -34,15 +26,3 @@ faultless_small list files faultless same at bytes found =
     sym (fin.get-from_entries path_total (map (λ file. (place_of file, file.bytes)) list) at) ∙ ap (λ m. fin.get m at) (sym same) ∙ found in
     let small = found_small list at bytes told in
     omega (arith, small, faultless.small)
-
--- what the menu of the files and the text of their wishes give is the answer to the files
-pub IsConfigAnswer-wishes : (files : FileMap) (menu : Declared) (text : List ℕ) (result : Result Answer Want) → menu_of files ≡ Ok menu → text ≡ wishes_text files
-    → IfOk result (IsWishAnswer menu text) → IfOk result (IsConfigAnswer files)
-IsConfigAnswer-wishes files menu text (Ok answer) is same given = inr (menu, is, subst (λ t. IsWishAnswer menu t answer) same given)
-IsConfigAnswer-wishes files menu text (Err want) is same given = tt
-
--- what a menu and the wishes of a text give is the answer to the menu and the text
-pub IsWishAnswer-solution : (menu : Declared) (text : List ℕ) (wishes : List Wish) (result : Result Answer Want) → IsReading text wishes
-    → IfOk result (IsSolveAnswer menu wishes) → IfOk result (IsWishAnswer menu text)
-IsWishAnswer-solution menu text wishes (Ok answer) reading given = inr (wishes, reading, given)
-IsWishAnswer-solution menu text wishes (Err want) reading given = tt
