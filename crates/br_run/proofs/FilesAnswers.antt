@@ -1,5 +1,5 @@
 -- What holds of the answers to files.
-use Rattle.std.proofs.Common.{◌≡◌, ◌≢◌, ◌⊎◌, inl, inr, ℕ, Bool, false, List, Result, Ok, Err, refl, sym, subst}
+use Rattle.std.proofs.Common.{◌≡◌, ◌≢◌, inl, inr, ℕ, Bool, false, List, Result, Ok, Err, refl, sym, subst}
 use Rattle.std.specs.Prelude.{None, IfOk, codes}
 use Rattle.br_path.specs.declared.values.Memory.{Memory as Want}
 use Rattle.br_path.specs.Files.{FileMap}

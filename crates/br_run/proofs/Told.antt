@@ -12,7 +12,6 @@ use Rattle.dot_config.specs.Reading.{IsReading, IsFirstFault as IsFirstWishFault
 use Rattle.kc_equations.specs.declared.fault.SolveFault.{SolveFault}
 use Rattle.kc_equations.specs.declared.fault.SolveFault.TheVariants as solving
 use Rattle.kc_equations.specs.Faults.{IsFirstFault as IsFirstSolveFault}
-use Rattle.kc_expr.specs.Values.{Table}
 use Rattle.kc_menu.specs.Menu.{Declared}
 use Rattle.kc_menu.specs.declared.wishes.Wish.{Wish}
 use Rattle.kc_syntax.specs.declared.error.KcFault.{KcFault}

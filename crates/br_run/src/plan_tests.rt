@@ -282,52 +282,42 @@ config BR2_PACKAGE_Y
 #[test]
 fn of_two_faults_of_recipes_the_first_is_told(rt: HostRuntime) -> Result<(), Fail> {
     let alloc = rt.alloc();
-    let rows: [([(&str, &str); 2], &str); 6] = [
+    let rows: [((&str, &str), (&str, &str), &str); 6] = [
         (
-            [
-                ("package/Foo/Foo.mk", "include x\n"),
-                ("package/a/a.mk", ""),
-            ],
+            ("package/Foo/Foo.mk", "include x\n"),
+            ("package/a/a.mk", ""),
             "fault wrong-name package/Foo/Foo.mk\nstatus 3\n",
         ),
         (
-            [
-                ("package/a-b/a-b.mk", ""),
-                ("package/a_b/a_b.mk", "include x\n"),
-            ],
+            ("package/a-b/a-b.mk", ""),
+            ("package/a_b/a_b.mk", "include x\n"),
             "fault wrong-name package/a_b/a_b.mk\nstatus 3\n",
         ),
         (
-            [
-                ("package/a/a.mk", "B := $(X:y)\ninclude x\n"),
-                ("package/b/b.mk", ""),
-            ],
+            ("package/a/a.mk", "B := $(X:y)\ninclude x\n"),
+            ("package/b/b.mk", ""),
             "fault recipe package/a/a.mk 2 unsupported include\nstatus 3\n",
         ),
         (
-            [
-                ("package/a/a.mk", "X = $(X)\nY := $(X)\n"),
-                ("package/b/b.mk", "include x\n"),
-            ],
+            ("package/a/a.mk", "X = $(X)\nY := $(X)\n"),
+            ("package/b/b.mk", "include x\n"),
             "fault expand a Y self-reference X\nstatus 3\n",
         ),
         (
-            [
-                ("package/a/a.mk", "ifeq ($(X:y),z)\nendif\n"),
-                ("package/a/fix.patch", ""),
-            ],
+            ("package/a/a.mk", "ifeq ($(X:y),z)\nendif\n"),
+            ("package/a/fix.patch", ""),
             "fault expand a ifeq unsupported X:y\nstatus 3\n",
         ),
         (
-            [("package/b/b.mk", ""), ("package/b/fix.patch", "")],
+            ("package/b/b.mk", ""),
+            ("package/b/fix.patch", ""),
             "fault patch-file package/b/fix.patch\nstatus 3\n",
         ),
     ];
-    for (recipes, report) in rows {
+    for (first, second, report) in rows {
         // Behind all that is wrong with recipes stands that none makes the package a.
-        let mut input = input(alloc, A, &recipes)?;
-        input.items.push(file(alloc, "package/a/Config.in", b"")?)?;
-        check_report(&rt, alloc, &["plan"], input, (3, report))?;
+        let others = [first, second, ("package/a/Config.in", "")];
+        check_plan(&rt, alloc, A, &others, (3, report))?;
     }
     Ok(())
 }
