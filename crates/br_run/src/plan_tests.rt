@@ -118,9 +118,9 @@ fn a_step_that_a_package_lacks_has_no_fault(rt: HostRuntime) -> Result<(), Fail>
     Ok(())
 }
 
-/// A recipe whose commands to configure have one byte, and whose commands to build have so many.
-fn long_commands(alloc: Global, bytes: u32) -> Result<FeedFiles, Memory> {
-    let mut recipe = Vec::from_slice(alloc, b"A_CONFIGURE_CMDS = c\nA_BUILD_CMDS = ")?;
+/// A recipe of these settings, the last of which is filled up with so many bytes.
+fn long_setting(alloc: Global, settings: &str, bytes: u32) -> Result<FeedFiles, Memory> {
+    let mut recipe = Vec::from_slice(alloc, settings.as_bytes())?;
     for _ in 0..bytes {
         recipe.push(b'b')?;
     }
@@ -135,15 +135,25 @@ fn long_commands(alloc: Global, bytes: u32) -> Result<FeedFiles, Memory> {
 #[test]
 fn the_commands_of_a_task_have_so_many_bytes(rt: HostRuntime) -> Result<(), Fail> {
     let alloc = rt.alloc();
-    for (bytes, status, report) in [
-        (262_143, 0, "a:prep\na:make a:prep\n"),
+    let commands = "A_CONFIGURE_CMDS = c\nA_BUILD_CMDS = ";
+    let hook_twice = "A_PRE_BUILD_HOOKS = A_FIX A_FIX\nA_FIX = ";
+    for (settings, bytes, status, report) in [
+        (commands, 262_143, 0, "a:prep\na:make a:prep\n"),
         (
+            commands,
             262_144,
             3,
             "fault expand a A_BUILD_CMDS too-costly\nstatus 3\n",
         ),
+        (hook_twice, 131_072, 0, "a:prep\na:make a:prep\n"),
+        (
+            hook_twice,
+            131_073,
+            3,
+            "fault expand a A_FIX too-costly\nstatus 3\n",
+        ),
     ] {
-        let input = long_commands(alloc, bytes)?;
+        let input = long_setting(alloc, settings, bytes)?;
         check_report(&rt, alloc, &["plan"], input, (status, report))?;
     }
     Ok(())
