@@ -1,9 +1,10 @@
 //! Comments.
-ghost use Rattle.std.specs.Prelude.{List, ℕ, ◌≡◌, ◌<◌, ◌≤◌, IfOk, IfSome, length};
+ghost use Rattle.std.specs.Prelude.{List, ℕ, ◌≡◌, ◌<◌, ◌≤◌, ◌++◌, IfOk, IfSome, length, take, drop};
 ghost use Rattle.mk_syntax.specs.Comment.{reach, behind_dollar, is_escape, kept_behind, without_comment};
 ghost use Rattle.mk_syntax.specs.Remains.{Keeps};
 
 use crate::brackets::closing;
+use memchr::memchr3;
 use std::alloc::{AllocError, Global};
 
 /// A law with nothing to run: what a line keeps without its comment, by its pieces.
@@ -31,10 +32,29 @@ pub(crate) fn without_comment(alloc: Global, line: &[u8]) -> Result<Vec<u8>, All
         } else {
             let (piece, further) = rest.split_at(kept_behind(*byte, behind) + 1);
             kept.extend_from_slice(piece)?;
-            rest = further;
+            rest = put_plain(&mut kept, further)?;
         }
     }
     Ok(kept)
+}
+
+/// Puts the plain bytes that a text begins with behind a line, and gives what follows them.
+fn put_plain<'a>(kept: &mut Vec<u8>, text: &'a [u8]) -> Result<&'a [u8], AllocError>
+    ensures same { IfOk result (λ rest. kept.new.items ++ without_comment 0 rest.now ≡ kept.old.items ++ without_comment 0 text.now) }
+    ensures within { IfOk result (λ rest. length rest.now ≤ length text.now) }
+{
+    let (plain, rest) = text.split_at(plain_length(text));
+    kept.extend_from_slice(plain)?;
+    Ok(rest)
+}
+
+/// How many bytes stand before the first that can begin a comment, an escape or a reference.
+#[tactic(auto, using(crate::proofs::Comments::plain_front))]
+fn plain_length(text: &[u8]) -> usize
+    ensures plain { without_comment 0 text.now ≡ take result text.now ++ without_comment 0 (drop result text.now) }
+    ensures within { result ≤ length text.now }
+{
+    memchr3(b'#', b'\\', b'$', text).unwrap_or(text.len())
 }
 
 fn is_escape(byte: u8, behind: &[u8]) -> bool

@@ -6,6 +6,7 @@ ghost use Rattle.mk_syntax.specs.Lines.{line_count, raw_lines, raw_behind, is_jo
 
 use crate::blanks::{skip_blanks, trim_end};
 use br_path::{Bytes, Memory};
+use memchr::memchr;
 use std::alloc::{AllocError, Global};
 
 /// A line with the number of its first part, which is its own where it isn't joined.
@@ -76,10 +77,11 @@ fn split_line(text: &[u8]) -> (&[u8], Option<&[u8]>)
     }
 }
 
+#[tactic(auto, using(crate::proofs::Places::found_place))]
 fn first_newline(text: &[u8]) -> Option<usize>
     ensures { result ≡ position (λ byte. byte == 10) text.now }
 {
-    text.iter().position(|byte| *byte == b'\n')
+    memchr(b'\n', text)
 }
 
 fn is_joined(line: &[u8]) -> bool
