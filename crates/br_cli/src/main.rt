@@ -5,24 +5,38 @@ use br_path::{Bytes, Memory, Names};
 use br_run::{Status, run};
 use feed_io::{FileSink, FolderFeed, StreamSink};
 use std::env::{Env, FillError};
+use std::fs::{self, File};
 use std::io;
+use std::os::fd::AsRawFd;
 use std::process::ExitCode;
 use std::rt::Files;
 
 /// Hands the words behind the program's name to the builder, and ends with its status. Nothing is written to standard
 /// error, and `rootfs.img` is opened where an image is put alone.
 fn main(rt: HostRuntime) -> ExitCode {
+    let _held = [held(&rt), held(&rt), held(&rt)];
     let status = build(&rt).unwrap_or(Status::NoMemory);
     ExitCode::from(status.number())
 }
 
+/// Takes the number of a standard stream that is closed, so that no file that is opened later gets it.
+///
+/// The root folder stands in the stream's place. It is open for reading alone, so that a write there still fails.
+fn held<R: Files<File = File>>(rt: &R) -> Option<File> {
+    fs::open(rt, "/").ok().filter(|file| file.as_raw_fd() <= 2)
+}
+
 fn build<R: Env + Files + Print + AllocGlobal + Clone + Drop>(rt: &R) -> Result<Status, Memory> {
-    let alloc = rt.alloc();
     let words = words(rt)?;
-    let mut feed = FolderFeed::new(rt, Bytes::from_slice(alloc, b".")?);
-    let mut out = StreamSink::new(io::writer(rt));
-    let mut image = FileSink::new(rt, Bytes::from_slice(alloc, b"rootfs.img")?);
-    Ok(run(alloc, &words.items, &mut feed, &mut out, &mut image))
+    let folder = Bytes::from_slice(rt.alloc(), b".")?;
+    let image = Bytes::from_slice(rt.alloc(), b"rootfs.img")?;
+    Ok(run(
+        rt.alloc(),
+        &words.items,
+        &mut FolderFeed::new(rt, folder),
+        &mut StreamSink::new(io::writer(rt)),
+        &mut FileSink::new(rt, image),
+    ))
 }
 
 /// The words behind the program's name, as their bytes.

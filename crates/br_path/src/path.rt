@@ -1,5 +1,5 @@
 //! Paths: what they are, their order, and which stands above which.
-ghost use Rattle.std.specs.Prelude.{List, ℕ, ◌≡◌, [], ◌∷◌, ◌++◌, refl, nat_eq, IfOk, OnOk, IsTrue, ◌↔◌, ◌+◌, ◌≤◌, length, take};
+ghost use Rattle.std.specs.Prelude.{List, ℕ, ◌≡◌, [], ◌∷◌, ◌++◌, refl, nat_eq, IfOk, OnOk, IsTrue, ◌↔◌, ◌+◌, ◌≤◌, length, take, drop};
 ghost use Rattle.std.specs.Cmp.{nat_eq_equiv, partial_equiv_from_equiv, partial_order_from_agreeing_total};
 ghost use Rattle.std.specs.Cmp.Lexicographic.{slice_cmp, pointwise, lists_per, lists_equiv, lists_total, lists_ties, nat_list_cmp_total, nat_list_eq_equiv, texts_ties};
 ghost use Rattle.std.specs.Ordering.{nat_cmp, as_partial_cmp};
@@ -30,7 +30,7 @@ impl Model for Path {
 }
 
 impl Path {
-    ghost use Rattle.br_path.specs.Path.{IsName, IsPath, closed, parent_of, path_cmp, StartsWith};
+    ghost use Rattle.br_path.specs.Path.{IsName, IsPath, path_text, closed, parent_of, path_cmp, StartsWith};
 
     /// The root: no name at all.
     pub fn root(alloc: Global) -> Path
@@ -85,6 +85,22 @@ impl Path {
         let mut path = self.copy()?;
         path.names.push(name)?;
         Ok(path)
+    }
+
+    /// The names after the first `depth` of this path, below another path: `/a/b/c` from depth 1 below `/x/y` is `/x/y/b/c`.
+    pub fn with_head(&self, alloc: Global, depth: usize, head: &Path) -> Result<Path, Memory>
+        requires depth { depth ≤ length self.now }
+        requires short { length (path_text (head.now ++ drop depth self.now)) ≤ 1024 }
+        ensures { IfOk result (λ p. p ≡ head.now ++ drop depth self.now) }
+    {
+        let mut names = Vec::new(alloc);
+        for name in head.names() {
+            names.push(name.copy()?)?;
+        }
+        for tail in &self.names.as_slice()[depth..] {
+            names.push(tail.copy()?)?;
+        }
+        Ok(Path { names })
     }
 
     /// The folder that the path stands in; none for the root.

@@ -2,9 +2,9 @@
 use Rattle.std.proofs.Common.{◌≡◌, Result, Ok, Err, refl, subst}
 use Rattle.std.specs.Prelude.{IfErr, OnOk, is_ok}
 use Rattle.br_path.specs.declared.values.Memory.{Memory as Want}
-use Rattle.tree_map.specs.declared.change.ChangeFault.{ChangeFault}
-use Rattle.tree_map.specs.declared.change.ChangeFault.TheVariants.{Absent, Present, NotDir, IsDir, IsLink, NotEmpty, ReadOnly, Outside, Loop, Crosses, NoSpace, TooLong, Memory}
-use Rattle.tree_map.specs.Change.{State, IsChange}
+use Rattle.first_tree.specs.declared.change.ChangeFault.{ChangeFault}
+use Rattle.first_tree.specs.declared.change.ChangeFault.TheVariants.{Absent, Present, NotDir, IsDir, IsLink, NotEmpty, ReadOnly, Outside, Loop, Crosses, NoSpace, TooLong, Memory}
+use Rattle.first_tree.specs.Change.{State, IsChange}
 
 -- a change that the definition makes fails by want of memory alone
 pub only_memory : (outcome : Result State ChangeFault) (old new made : State) (result : Result (Unit {0}) ChangeFault) → outcome ≡ Ok made → IsChange outcome old result new → IfErr result (λ fault. fault ≡ Memory)

@@ -12,11 +12,11 @@ abbrev pub dir_entry : Names → Names × RootEntry
 dir_entry folder = (folder, Dir 493)
 
 -- one folder more
-pub folders-more : (place : Names) (depth : ℕ) (items new : List (Names × RootEntry)) (folder : Names) (mode : ℕ)
+pub folders-more : (place : Names) (depth : ℕ) (items new : List (Names × RootEntry)) (entry : Names × RootEntry)
     → items ≡ map dir_entry (map (λ d. take d place) (range_with_len 0 depth))
-    → folder ≡ take depth place → mode ≡ 493 → new ≡ items ++ (folder, Dir mode) ∷ []
+    → entry ≡ dir_entry (take depth place) → new ≡ items ++ entry ∷ []
     → new ≡ map dir_entry (map (λ d. take d place) (range_with_len 0 (depth + 1)))
-folders-more place depth items new folder mode so_far is same pushed =
-    pushed ∙ (λ i. so_far i ++ (is i, Dir (same i)) ∷ [])
+folders-more place depth items new entry so_far is pushed =
+    pushed ∙ (λ i. so_far i ++ is i ∷ [])
     ∙ sym (map-append dir_entry (map (λ d. take d place) (range_with_len 0 depth)) (take depth place ∷ []))
     ∙ ap (map dir_entry) (sym (map-range_with_len_more (λ d. take d place) 0 depth depth (omega arith)))

@@ -6,13 +6,13 @@ use Rattle.std.proofs.lemmas.Bool.{cases_lt}
 use Rattle.std.proofs.lemmas.List.{length-take-le}
 use Rattle.br_path.specs.Path.{Names, parent_of, path_cmp, rooted_text}
 use Rattle.br_path.proofs.PathOrder.{path_total, path_same}
-use Rattle.tree_map.specs.declared.entry.Node.TheVariants.{Dir}
-use Rattle.tree_map.specs.declared.pen.Pen.{Pen}
-use Rattle.tree_map.specs.Tree.{Tree, empty_tree, node_at}
-use Rattle.tree_map.specs.Pen.{new_pen, is_within_limits}
-use Rattle.tree_map.specs.Change.{MakeDir, named, new_name_fault, no_folder_fault, parent_fault, changed}
-use Rattle.tree_map.specs.MapTree.{with_name}
-use Rattle.tree_map.proofs.Inserts.{get-insert_cases, get-insert_same}
+use Rattle.first_tree.specs.declared.entry.Node.TheVariants.{Dir}
+use Rattle.first_tree.specs.declared.pen.Pen.{Pen}
+use Rattle.first_tree.specs.Tree.{Tree, empty_tree, node_at}
+use Rattle.first_tree.specs.Pen.{new_pen, is_within_limits}
+use Rattle.first_tree.specs.Change.{MakeDir, named, new_name_fault, no_folder_fault, parent_fault, changed}
+use Rattle.first_tree.specs.MapTree.{with_name}
+use Rattle.first_tree.proofs.Inserts.{get-insert_cases, get-insert_same}
 use Rattle.br_run.specs.Root.{HasFolders, IsShort}
 
 -- the front of a list with one more at its head

@@ -6,14 +6,14 @@ use Rattle.std.proofs.lemmas.Bool.Decides.{nat_tests}
 use Rattle.std.proofs.Math.Seq.{take-length}
 use Rattle.br_path.specs.Path.{Names, parent_of, path_text, rooted_text}
 use Rattle.br_path.proofs.PathOrder.{path_total, path_same}
-use Rattle.tree_map.specs.declared.entry.Node.TheVariants.{File}
-use Rattle.tree_map.specs.declared.pen.Pen.{Pen}
-use Rattle.tree_map.specs.Tree.{Tree, node_at}
-use Rattle.tree_map.specs.Pen.{is_within_limits}
-use Rattle.tree_map.specs.Change.{MakeFile, next_label, pen_after, tree_after, new_name_fault, no_folder_fault, parent_fault, changed}
-use Rattle.tree_map.proofs.Inserts.{get-insert_cases, get-insert_same}
-use Rattle.tree_map.proofs.Lengths.{rooted_text-short}
-use Rattle.tree_map.proofs.Orders.{label_total}
+use Rattle.first_tree.specs.declared.entry.Node.TheVariants.{File}
+use Rattle.first_tree.specs.declared.pen.Pen.{Pen}
+use Rattle.first_tree.specs.Tree.{Tree, node_at}
+use Rattle.first_tree.specs.Pen.{is_within_limits}
+use Rattle.first_tree.specs.Change.{MakeFile, next_label, pen_after, tree_after, new_name_fault, no_folder_fault, parent_fault, changed}
+use Rattle.first_tree.proofs.Inserts.{get-insert_cases, get-insert_same}
+use Rattle.first_tree.proofs.Lengths.{rooted_text-short}
+use Rattle.first_tree.proofs.Orders.{label_total}
 use Rattle.first_form.specs.declared.form.FirstForm.{FirstForm}
 use Rattle.first_form.specs.Form.{IsForm, is_place, is_place_name}
 use Rattle.br_run.specs.Root.{HasFolders, HasRoot, IsShort}

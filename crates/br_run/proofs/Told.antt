@@ -12,6 +12,7 @@ use Rattle.dot_config.specs.Reading.{IsReading, IsFirstFault as IsFirstWishFault
 use Rattle.kc_equations.specs.declared.fault.SolveFault.{SolveFault}
 use Rattle.kc_equations.specs.declared.fault.SolveFault.TheVariants as solving
 use Rattle.kc_equations.specs.Faults.{IsFirstFault as IsFirstSolveFault}
+use Rattle.kc_values.specs.Values.{Table}
 use Rattle.kc_menu.specs.Menu.{Declared}
 use Rattle.kc_menu.specs.declared.wishes.Wish.{Wish}
 use Rattle.kc_syntax.specs.declared.error.KcFault.{KcFault}
@@ -23,13 +24,12 @@ use Rattle.recipe_plan.specs.Planning.{IsPlanning}
 use Rattle.recipe_set.specs.declared.fault.PlanFault.{PlanFault}
 use Rattle.recipe_set.specs.declared.fault.PlanFault.TheVariants as planning
 use Rattle.br_run.specs.declared.answer.Answer.{Answer}
-use Rattle.br_run.specs.declared.configuration.Configuration.{Configuration}
 use Rattle.br_run.specs.declared.fault.InputFault.{InputFault}
 use Rattle.br_run.specs.declared.fault.InputFault.TheVariants.{Told, Memory}
 use Rattle.br_run.specs.Answer.{IsFaultAnswer, IsShowAnswer, packages, bad_input, written}
-use Rattle.br_run.specs.Configured.{HasNoSolution, unread, unsolved, IsConfigFault, no_menu, no_solution, IsConfiguration, wishes_text}
+use Rattle.br_run.specs.Configured.{HasNoSolution, unread, unsolved, IsConfigFault, no_menu, no_solution, wishes_text}
 use Rattle.br_run.specs.Fault.{Tells}
-use Rattle.br_run.specs.Planned.{AreNamesFor, IsInputFault, of_plan, IsPlanOf}
+use Rattle.br_run.specs.Planned.{AreNamesFor, IsPlanFault, IsPlanOf}
 use Rattle.br_run.specs.Report.{menu_fault_words, wish_fault_words, solve_fault_words, no_package_words}
 use Rattle.br_run.specs.Shown.{Relation, IsShowFault, no_package}
 
@@ -62,11 +62,10 @@ pub no_solution_told : (files : FileMap) (menu : Declared) (text : List ℕ) (fa
 no_solution_told files menu text fault is same =
     Tells-map (HasNoSolution menu text) (IsConfigFault files) fault (λ words none. no_solution menu words is (subst (λ t. HasNoSolution menu t words) same none))
 
-pub no_plan_words : (files : FileMap) (configuration : Configuration) (fault : PlanFault) (words : List ℕ) → IsConfiguration files configuration
-    → (fault ≢ planning.Memory → IsPlanning files configuration.values (Err fault)) → fault ≢ planning.Memory
-    → (names : List (List ℕ)) × AreNamesFor files configuration.values fault names × (words ≡ plan_fault_words names fault) → IsInputFault files words
-no_plan_words files configuration fault words configured first other told =
-    of_plan configuration configured (record { fault = fault; names = told.0; first = first other; no_memory = other; named = told.1; words_are = told.2 })
+pub no_plan_words : (files : FileMap) (values : Table) (fault : PlanFault) (words : List ℕ) → (fault ≢ planning.Memory → IsPlanning files values (Err fault)) → fault ≢ planning.Memory
+    → (names : List (List ℕ)) × AreNamesFor files values fault names × (words ≡ plan_fault_words names fault) → IsPlanFault files values words
+no_plan_words files values fault words first other told =
+    record { fault = fault; names = told.0; first = first other; no_memory = other; named = told.1; words_are = told.2 }
 
 pub no_package_told : (files : FileMap) (plan : Planned) (name words : List ℕ) → IsPlanOf files plan → (IsPackage plan name → ⊥) → words ≡ no_package_words name → IsShowFault files name words
 no_package_told files plan name words is none same = subst (IsShowFault files name) (sym same) (no_package plan is none)

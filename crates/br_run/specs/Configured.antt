@@ -2,7 +2,7 @@
 use Rattle.std.specs.Prelude.{◌≡◌, ◌≢◌, ℕ, List, [], ◌∷◌, Ok, Err, unwrap_or, codes}
 use Rattle.std.specs.FinMap as fin
 use Rattle.br_path.specs.Files.{FileMap}
-use Rattle.kc_expr.specs.Values.{Table}
+use Rattle.kc_values.specs.Values.{Table}
 use Rattle.kc_menu.specs.Menu.{Declared}
 use Rattle.kc_menu.specs.declared.wishes.Wish.{Wish}
 use Rattle.kc_syntax.specs.declared.error.KcFault.{KcFault}

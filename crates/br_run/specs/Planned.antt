@@ -1,7 +1,7 @@
 -- The plan of files, or the first fault of the input.
 use Rattle.std.specs.Prelude.{◌≡◌, ◌≢◌, ℕ, List, [], Ok, Err}
 use Rattle.br_path.specs.Files.{FileMap}
-use Rattle.kc_expr.specs.Values.{Table}
+use Rattle.kc_values.specs.Values.{Table}
 use Rattle.plan_rows.specs.Plan.{Planned}
 use Rattle.recipe_set.specs.declared.fault.PlanFault.{PlanFault}
 use Rattle.recipe_set.specs.declared.fault.PlanFault.TheVariants.{Cycle, Memory}

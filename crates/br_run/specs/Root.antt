@@ -1,9 +1,9 @@
 -- The root file system of an input of the first form.
 use Rattle.std.specs.Prelude.{◌≡◌, ℕ, ◌<◌, ◌≤◌, ◌+◌, ◌*◌, List, [], ◌∷◌, ◌++◌, length, map, take, Some, None}
 use Rattle.br_path.specs.Path.{Names, folders_of, rooted_text}
-use Rattle.tree_map.specs.Tree.{Tree, node_at, mode_at, bytes_at}
-use Rattle.tree_map.specs.declared.entry.Node.TheVariants as node
-use Rattle.tree_map.specs.declared.pen.Pen.{Pen}
+use Rattle.first_tree.specs.Tree.{Tree, node_at, mode_at, bytes_at}
+use Rattle.first_tree.specs.declared.entry.Node.TheVariants as node
+use Rattle.first_tree.specs.declared.pen.Pen.{Pen}
 use Rattle.image_text.specs.declared.root.RootEntry.{RootEntry}
 use Rattle.image_text.specs.declared.root.RootEntry.TheVariants.{Dir, First}
 use Rattle.first_form.specs.declared.form.FirstForm.{FirstForm}

@@ -7,6 +7,8 @@ use Rattle.br_path.specs.Files.{FileMap}
 use Rattle.plan_rows.specs.declared.rows.Part.TheVariants.{Prep}
 use Rattle.plan_rows.specs.Plan.{Planned, IsTask, IsPackage, IsPrepOf}
 use Rattle.recipe_plan.specs.Packages.{ArePackages, depends_on}
+use Rattle.br_run.specs.declared.show.Show.{Show}
+use Rattle.br_run.specs.declared.show.Show.TheVariants as show
 use Rattle.br_run.specs.Planned.{IsInputFault, IsPlanOf}
 use Rattle.br_run.specs.Report.{no_package_words}
 
@@ -25,6 +27,12 @@ DependsInSteps needs = Reaches (depends_on needs)
 -- the second depends on the first
 abbrev pub IsDependedOn : Relation
 IsDependedOn needs place user = depends_on needs user place ≡ true
+
+-- the relation that a show command is about
+abbrev pub relation_of : Show → Relation
+relation_of show.Depends = Depends
+relation_of show.Recursive = DependsInSteps
+relation_of show.Rdepends = IsDependedOn
 
 -- the packages of a plan that are shown for the one of a name, by their prep tasks, which rise
 pub record AreShown (Related : Relation) (plan : Planned) (name tasks : List ℕ) : Type 0 where

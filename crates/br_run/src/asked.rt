@@ -14,7 +14,7 @@ use plan_rows::Plan;
 use std::alloc::Global;
 
 /// A plan, and a package of it by its prep task.
-#[derive(Debug, Drop)]
+#[derive(Drop)]
 pub(crate) struct Asked {
     pub(crate) plan: Plan,
     pub(crate) prep: u32,

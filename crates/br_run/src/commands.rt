@@ -14,9 +14,7 @@ use crate::build::answer_build;
 use crate::config::answer_config;
 use crate::plan::answer_plan;
 use crate::report::read_fault_words;
-use crate::show_depends::answer_depends;
-use crate::show_rdepends::answer_rdepends;
-use crate::show_recursive::answer_recursive;
+use crate::show::{Show, answer_show};
 use crate::status::Status;
 use br_path::{Bytes, Files, Memory};
 use br_words::{Words, WordsFault};
@@ -94,8 +92,8 @@ fn answer_files(alloc: Global, command: &Words, files: &Files) -> Result<Answer,
         Words::Build { .. } => answer_build(alloc, files),
         Words::Config => answer_config(alloc, files),
         Words::Plan => answer_plan(alloc, files),
-        Words::ShowDepends(name) => answer_depends(alloc, files, name.as_slice()),
-        Words::ShowRecursive(name) => answer_recursive(alloc, files, name.as_slice()),
-        Words::ShowRdepends(name) => answer_rdepends(alloc, files, name.as_slice()),
+        Words::ShowDepends(name) => answer_show(alloc, files, name.as_slice(), Show::Depends),
+        Words::ShowRecursive(name) => answer_show(alloc, files, name.as_slice(), Show::Recursive),
+        Words::ShowRdepends(name) => answer_show(alloc, files, name.as_slice(), Show::Rdepends),
     }
 }

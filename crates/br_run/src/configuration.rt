@@ -8,14 +8,14 @@ use crate::fault::InputFault;
 use crate::report::{menu_fault_words, solve_fault_words, wish_fault_words};
 use br_path::{Files, Memory, Path};
 use dot_config::WishError;
-use kc_expr::Values;
 use kc_menu::Menu;
 use kc_solve::{SolveFault, solve};
 use kc_syntax::{KcError, parse};
+use kc_values::Values;
 use std::alloc::Global;
 
 /// A configuration: what is declared, and the value of each symbol.
-#[derive(Debug, Drop)]
+#[derive(Drop)]
 pub(crate) struct Configuration {
     pub(crate) menu: Menu,
     pub(crate) values: Values,
@@ -27,6 +27,7 @@ pub(crate) fn configuration_of(alloc: Global, files: &Files) -> Result<Configura
     ensures configuration { IfOk result (IsConfiguration files.now) }
     ensures fault { IfErr result (Tells (IsConfigFault files.now)) }
 {
+    let text = wishes_text(alloc, files)?;
     let menu = match parse(alloc, files) {
         Ok(menu) => menu,
         Err(error) => match error {
@@ -36,7 +37,6 @@ pub(crate) fn configuration_of(alloc: Global, files: &Files) -> Result<Configura
             KcError::Memory => return Err(InputFault::Memory),
         },
     };
-    let text = wishes_text(alloc, files)?;
     match values_of(alloc, &menu, text) {
         Ok(values) => Ok(Configuration { menu, values }),
         Err(fault) => Err(fault),

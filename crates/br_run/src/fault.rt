@@ -4,7 +4,7 @@ ghost use Rattle.std.specs.Prelude.{◌≡◌};
 use br_path::{Bytes, Memory};
 
 /// Why files have no configuration or no plan, or why none of their packages are shown.
-#[derive(Debug, Drop)]
+#[derive(Drop)]
 pub(crate) enum InputFault {
     /// The first fault, in words.
     Told(Bytes),

@@ -12,21 +12,13 @@ mod commands;
 mod config;
 mod configuration;
 mod fault;
-#[cfg(test)]
-mod fixtures;
 mod plan;
-#[cfg(test)]
-mod plan_tests;
 mod planning;
 mod put;
 mod report;
 mod root;
-mod show_depends;
-mod show_rdepends;
-mod show_recursive;
+mod show;
 mod status;
-#[cfg(test)]
-mod tests;
 mod top;
 
 pub use answer::Answer;

@@ -1,15 +1,17 @@
 //! The plan of files, or the first fault of the input.
-ghost use Rattle.std.specs.Prelude.{◌≡◌, List, ℕ, IfOk, IfErr};
+ghost use Rattle.std.specs.Prelude.{◌≡◌, ◌≢◌, List, ℕ, Ok, Err, IfOk, IfErr};
 ghost use Rattle.br_path.specs.Files.{AreSmall};
 ghost use Rattle.build_report.specs.Faults.{plan_fault_words as words_of};
 ghost use Rattle.br_run.specs.Fault.{Tells};
-ghost use Rattle.br_run.specs.Planned.{AreNamesFor, IsInputFault, IsPlanOf};
+ghost use Rattle.br_run.specs.Planned.{AreNamesFor, IsInputFault, IsPlanFault, IsPlanOf};
+ghost use Rattle.recipe_plan.specs.Planning.{IsPlanning};
+ghost use Rattle.recipe_set.specs.declared.fault.PlanFault.TheVariants.{Memory as no_memory};
 
 use crate::configuration::configuration_of;
 use crate::fault::InputFault;
 use br_path::{Bytes, Files, Memory, Names};
 use build_report::plan_fault_words;
-use kc_expr::Values;
+use kc_values::Values;
 use plan_rows::Plan;
 use recipe_plan::{plan, task_names};
 use recipe_set::PlanFault;
@@ -21,20 +23,35 @@ pub(crate) fn plan_of(alloc: Global, files: &Files) -> Result<Plan, InputFault>
     ensures plan { IfOk result (IsPlanOf files.now) }
     ensures fault { IfErr result (Tells (IsInputFault files.now)) }
 {
-    let configuration = match configuration_of(alloc, files) {
-        Ok(configuration) => configuration,
-        Err(fault) => return Err(fault),
-    };
-    match plan(alloc, files, &configuration.values) {
+    match configuration_of(alloc, files) {
+        Ok(configuration) => plan_at(alloc, files, &configuration.values),
+        Err(fault) => Err(fault),
+    }
+}
+
+/// The plan of files at values.
+fn plan_at(alloc: Global, files: &Files, values: &Values) -> Result<Plan, InputFault>
+    requires { AreSmall files.now }
+    ensures plan { IfOk result (λ plan. IsPlanning files.now values.now (Ok plan)) }
+    ensures fault { IfErr result (Tells (IsPlanFault files.now values.now)) }
+{
+    match plan(alloc, files, values) {
         Ok(plan) => Ok(plan),
-        Err(fault) => match fault {
-            PlanFault::Memory => Err(InputFault::Memory),
-            other => Err(InputFault::Told(fault_words(
-                alloc,
-                files,
-                &configuration.values,
-                &other,
-            )?)),
+        Err(fault) => Err(told(alloc, files, values, &fault)),
+    }
+}
+
+/// What is told of the first fault of the plan of files and values.
+fn told(alloc: Global, files: &Files, values: &Values, fault: &PlanFault) -> InputFault
+    requires small { AreSmall files.now }
+    requires first { fault.now ≢ no_memory → IsPlanning files.now values.now (Err fault.now) }
+    ensures { Tells (IsPlanFault files.now values.now) result }
+{
+    match fault {
+        PlanFault::Memory => InputFault::Memory,
+        _ => match fault_words(alloc, files, values, fault) {
+            Ok(words) => InputFault::Told(words),
+            Err(_) => InputFault::Memory,
         },
     }
 }

@@ -1,14 +1,15 @@
 //! The root file system of an input of the first form.
-ghost use Rattle.std.specs.Prelude.{◌≡◌, ◌≤◌, ◌<◌, ◌+◌, IfOk, IfErr, OnOk, is_ok, length};
+ghost use Rattle.std.specs.Prelude.{◌≡◌, ◌≤◌, ◌<◌, ◌+◌, IfOk, IfErr, OnOk, is_ok, length, take};
 ghost use Rattle.first_form.specs.Form.{IsForm};
+ghost use Rattle.image_text.specs.declared.root.RootEntry.TheVariants.{Dir, First};
 ghost use Rattle.br_run.specs.Root.{root_entries, HasRoot, HasFolders, IsShort};
-ghost use Rattle.tree_map.specs.MapTree.{shown};
+ghost use Rattle.first_tree.specs.MapTree.{shown};
 
 use br_path::{Bytes, Memory, Path};
 use first_form::FirstForm;
+use first_tree::{ChangeFault, MapTree, Pen, TreeOps};
 use image_text::{Root, RootEntry};
 use std::alloc::Global;
-use tree_map::{ChangeFault, MapTree, Pen, TreeOps};
 
 /// The folders that the file's place stands in, and the file, as they stand in a tree where they were made.
 pub fn root_of(alloc: Global, form: &FirstForm) -> Result<Root, Memory>
@@ -18,14 +19,36 @@ pub fn root_of(alloc: Global, form: &FirstForm) -> Result<Root, Memory>
     let tree = tree_of(alloc, form)?;
     let mut items = Vec::new(alloc);
     for depth in 0..form.place.names().len() {
-        let folder = form.place.prefix(alloc, depth)?;
-        let mode = tree.mode(&folder).unwrap();
-        items.push((folder, RootEntry::Dir(mode)))?;
+        items.push(folder_entry(alloc, &tree, form, depth)?)?;
     }
+    items.push(place_entry(alloc, &tree, form)?)?;
+    Ok(Root { items })
+}
+
+/// The entry of one of the folders that the file's place stands in.
+fn folder_entry(
+    alloc: Global,
+    tree: &MapTree,
+    form: &FirstForm,
+    depth: usize,
+) -> Result<(Path, RootEntry), Memory>
+    requires root { HasRoot (shown tree.now) form.now }
+    requires within { depth < length form.now.place }
+    ensures { IfOk result (λ entry. entry ≡ (take depth form.now.place, Dir 493)) }
+{
+    let folder = form.place.prefix(alloc, depth)?;
+    let mode = tree.mode(&folder).unwrap();
+    Ok((folder, RootEntry::Dir(mode)))
+}
+
+/// The entry of the file.
+fn place_entry(alloc: Global, tree: &MapTree, form: &FirstForm) -> Result<(Path, RootEntry), Memory>
+    requires { HasRoot (shown tree.now) form.now }
+    ensures { IfOk result (λ entry. entry ≡ (form.now.place, First form.now.mode form.now.bytes)) }
+{
     let mode = tree.mode(&form.place).unwrap();
     let bytes = Bytes::from_slice(alloc, tree.bytes(&form.place).unwrap())?;
-    items.push((form.place.copy()?, RootEntry::First { mode, bytes }))?;
-    Ok(Root { items })
+    Ok((form.place.copy()?, RootEntry::First { mode, bytes }))
 }
 
 /// A tree with the file at its place, in folders of mode 0o755.

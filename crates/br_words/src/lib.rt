@@ -7,7 +7,5 @@
 
 mod command;
 mod options;
-#[cfg(test)]
-mod tests;
 
 pub use command::{Words, WordsFault, one_answer};

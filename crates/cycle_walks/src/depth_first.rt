@@ -23,7 +23,7 @@ pub enum Found {
 }
 
 /// How far the search has come with a node.
-#[derive(Clone, Copy, Debug)]
+#[derive(Clone, Copy)]
 enum Mark {
     /// Not met yet.
     Unmet,
@@ -34,7 +34,7 @@ enum Mark {
 }
 
 /// What the search has met so far.
-#[derive(Debug, Drop)]
+#[derive(Drop)]
 struct Descent {
     marks: Vec<Mark>,
     path: Vec<u32>,

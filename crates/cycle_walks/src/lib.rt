@@ -11,8 +11,6 @@ mod depth_first;
 mod graph;
 mod least;
 mod reach;
-#[cfg(test)]
-mod tests;
 
 pub use depth_first::{Found, order, orders};
 pub use graph::Graph;

@@ -60,7 +60,7 @@ fn seen_nodes(alloc: Global, seen: &[bool]) -> Result<Numbers, Memory>
 }
 
 /// What is seen so far, and which seen nodes' rows are still to be looked at.
-#[derive(Debug, Drop)]
+#[derive(Drop)]
 struct Reach {
     seen: Vec<bool>,
     todo: Vec<u32>,

@@ -12,7 +12,7 @@ use br_path::{Memory, Numbers};
 use std::alloc::Global;
 
 /// How a task stands.
-#[derive(Clone, Copy, Debug)]
+#[derive(Clone, Copy)]
 enum Stand {
     /// Not taken yet; how many of its needs aren't.
     Waits(usize),
@@ -21,7 +21,7 @@ enum Stand {
 }
 
 /// The tasks that are taken, in order, and how each task stands.
-#[derive(Debug, Drop)]
+#[derive(Drop)]
 struct Waiting {
     stands: Vec<Stand>,
     taken: Vec<u32>,

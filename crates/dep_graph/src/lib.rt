@@ -6,8 +6,6 @@
 
 mod graph;
 mod least_first;
-#[cfg(test)]
-mod tests;
 
 pub use graph::{Graph, OrderFault};
 pub use least_first::one_order;

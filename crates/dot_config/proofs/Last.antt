@@ -6,7 +6,7 @@ use Rattle.std.proofs.lemmas.Bool.{or_parts, cond-true, cond-false, not-true, no
 use Rattle.std.proofs.lemmas.List.{append-nil, reverse-append}
 use Rattle.std.proofs.lemmas.List.Elements.{All-nil, All-cons, All-head, All-tail, All-weaker}
 use Rattle.std.proofs.lemmas.List.Kept.{AllPairs-cons}
-use Rattle.kc_text.specs.Lines.{is_text}
+use Rattle.br_path.specs.Text.{is_text}
 use Rattle.kc_menu.specs.Wishes.{AreWishes}
 use Rattle.kc_menu.specs.declared.wishes.Wish.{Wish}
 use Rattle.dot_config.specs.declared.line.Said.{Said}

@@ -3,7 +3,7 @@ use Rattle.std.proofs.Common.{ℕ, ◌≡◌, ◌<◌, length, append_assoc, ari
 use Rattle.std.specs.Prelude.{◌==◌, ◌≢◌, not, ◌&&◌}
 use Rattle.std.proofs.lemmas.Bool.{eqb-true, eqb-false, ne_eqb, not-true, and_parts, cond-true, cond-false}
 use Rattle.std.proofs.lemmas.List.{append-nil}
-use Rattle.kc_text.specs.Lines.{is_text}
+use Rattle.br_path.specs.Text.{is_text}
 use Rattle.dot_config.specs.Line.{IsQuoted, nothing, plain, escaped}
 use Rattle.dot_config.specs.SaidBy.{unquoted, next_byte, put_byte, is_plain}
 use Rattle.dot_config.proofs.Cuts.{cond_cases, some_then, some_same}

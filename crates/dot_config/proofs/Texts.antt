@@ -4,8 +4,8 @@ use Rattle.std.specs.List.{flat_map, filter_map, cons_option, slice_get}
 use Rattle.std.specs.Option.{option_map}
 use Rattle.std.proofs.lemmas.List.{append-nil, drop_more, drop_all}
 use Rattle.std.proofs.lemmas.Option.{slice_get_within, get_or_from_slice_get}
-use Rattle.kc_expr.specs.Values.{Table}
-use Rattle.kc_expr.specs.declared.values.Valued.{Valued}
+use Rattle.kc_values.specs.Values.{Table}
+use Rattle.kc_values.specs.declared.values.Valued.{Valued}
 use Rattle.kc_menu.specs.Visible.{is_visible}
 use Rattle.kc_menu.specs.declared.menu.KcEntry.{KcEntry}
 use Rattle.kc_menu.specs.declared.wishes.WishValue.{WishValue}

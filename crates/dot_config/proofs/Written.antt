@@ -9,12 +9,12 @@ use Rattle.std.proofs.lemmas.List.Elements.{All-nil, All-cons, All-head, All-tai
 use Rattle.std.proofs.lemmas.List.Splits.{slice_split_at}
 use Rattle.std.proofs.lemmas.Map.Keys.{IsDistinct-head, IsDistinct-tail, IsDistinct-cons}
 use Rattle.kc_text.specs.Bytes.{of_symbol}
-use Rattle.kc_text.specs.Lines.{is_text, raw_lines}
-use Rattle.kc_expr.specs.Holds.{is_y}
-use Rattle.kc_expr.specs.Values.{Table, IsTable, same_text}
-use Rattle.kc_expr.specs.declared.values.Valued.{Valued}
-use Rattle.kc_expr.specs.declared.expr.Kind.{Kind}
-use Rattle.kc_expr.specs.declared.expr.Kind.TheVariants.{Bool as BoolKind, Text as TextKind, Int as IntKind}
+use Rattle.kc_text.specs.Lines.{raw_lines}
+use Rattle.br_path.specs.Text.{is_text}
+use Rattle.kc_values.specs.Values.{is_y, Table, IsTable}
+use Rattle.kc_values.specs.declared.values.Valued.{Valued}
+use Rattle.kc_values.specs.declared.kind.Kind.{Kind}
+use Rattle.kc_values.specs.declared.kind.Kind.TheVariants.{Bool as BoolKind, Text as TextKind, Int as IntKind}
 use Rattle.kc_menu.specs.Visible.{is_visible}
 use Rattle.kc_menu.specs.declared.menu.KcEntry.{KcEntry}
 use Rattle.kc_menu.specs.declared.wishes.Wish.{Wish}
@@ -123,18 +123,18 @@ wishes_of number [] = refl
 wishes_of number (w ∷ ws) = ap (λ rest. record { symbol = w.0; value = w.1; line = number } ∷ rest) (wishes_of (number + 1) ws)
 
 -- no symbol is asked for twice
-unasked : (number : ℕ) (symbol : List ℕ) (ws : List Pair) → AllByRecursion (λ other. same_text symbol other ≡ false) (keys_of ws) → asks_for symbol (numbered number ws) ≡ false
+unasked : (number : ℕ) (symbol : List ℕ) (ws : List Pair) → AllByRecursion (λ other. is_text symbol other ≡ false) (keys_of ws) → asks_for symbol (numbered number ws) ≡ false
 unasked number symbol [] apart = refl
 unasked number symbol (w ∷ ws) apart =
     or_from (is_text w.0 symbol) (asks_for symbol (numbered (number + 1) ws)) (is_text-flip w.0 symbol ∙ apart.0) (unasked (number + 1) symbol ws apart.1)
 
-last_of : (number : ℕ) (ws : List Pair) → IsDistinct same_text (keys_of ws) → last_wishes (numbered number ws) ≡ numbered number ws
+last_of : (number : ℕ) (ws : List Pair) → IsDistinct is_text (keys_of ws) → last_wishes (numbered number ws) ≡ numbered number ws
 last_of number [] apart = refl
 last_of number (w ∷ ws) apart =
-    cond-false (asks_for w.0 (numbered (number + 1) ws)) (last_wishes (numbered (number + 1) ws)) (record { symbol = w.0; value = w.1; line = number } ∷ last_wishes (numbered (number + 1) ws)) (unasked (number + 1) w.0 ws (IsDistinct-head same_text w.0 (keys_of ws) apart))
-    ∙ ap (λ rest. record { symbol = w.0; value = w.1; line = number } ∷ rest) (last_of (number + 1) ws (IsDistinct-tail same_text w.0 (keys_of ws) apart))
+    cond-false (asks_for w.0 (numbered (number + 1) ws)) (last_wishes (numbered (number + 1) ws)) (record { symbol = w.0; value = w.1; line = number } ∷ last_wishes (numbered (number + 1) ws)) (unasked (number + 1) w.0 ws (IsDistinct-head is_text w.0 (keys_of ws) apart))
+    ∙ ap (λ rest. record { symbol = w.0; value = w.1; line = number } ∷ rest) (last_of (number + 1) ws (IsDistinct-tail is_text w.0 (keys_of ws) apart))
 
-lined_reading : (text : List ℕ) (ws : List Pair) → text ≡ lines_text ws → All IsLined ws → IsDistinct same_text (keys_of ws) → IsReading text (numbered 1 ws)
+lined_reading : (text : List ℕ) (ws : List Pair) → text ≡ lines_text ws → All IsLined ws → IsDistinct is_text (keys_of ws) → IsReading text (numbered 1 ws)
 lined_reading text ws is lined apart = record {
   all = numbered 1 ws;
   forms = record {
@@ -174,15 +174,15 @@ module _ (wish : List ℕ × Valued → Option WishValue) where
   keys_kept P [] all = all
   keys_kept P (v ∷ values) all = kept P v.0 (wish v) (chosen values) all.0 (keys_kept P values all.1)
 
-  apart_cons : (symbol : List ℕ) (o : Option WishValue) (ws : List Pair) → AllByRecursion (λ other. same_text symbol other ≡ false) (keys_of ws) → IsDistinct same_text (keys_of ws) → IsDistinct same_text (keys_of (cons_option (option_map (λ value. (symbol, value)) o) ws))
+  apart_cons : (symbol : List ℕ) (o : Option WishValue) (ws : List Pair) → AllByRecursion (λ other. is_text symbol other ≡ false) (keys_of ws) → IsDistinct is_text (keys_of ws) → IsDistinct is_text (keys_of (cons_option (option_map (λ value. (symbol, value)) o) ws))
   apart_cons symbol None ws one apart = apart
-  apart_cons symbol (Some value) ws one apart = IsDistinct-cons same_text symbol (keys_of ws) one apart
+  apart_cons symbol (Some value) ws one apart = IsDistinct-cons is_text symbol (keys_of ws) one apart
 
-  chosen_apart : (values : Table) → IsDistinct same_text (keys_of values) → IsDistinct same_text (keys_of (chosen values))
+  chosen_apart : (values : Table) → IsDistinct is_text (keys_of values) → IsDistinct is_text (keys_of (chosen values))
   unfolding chosen
   chosen_apart [] apart = apart
   chosen_apart (v ∷ values) apart =
-      apart_cons v.0 (wish v) (chosen values) (keys_kept (λ other. same_text v.0 other ≡ false) values (IsDistinct-head same_text v.0 (keys_of values) apart)) (chosen_apart values (IsDistinct-tail same_text v.0 (keys_of values) apart))
+      apart_cons v.0 (wish v) (chosen values) (keys_kept (λ other. is_text v.0 other ≡ false) values (IsDistinct-head is_text v.0 (keys_of values) apart)) (chosen_apart values (IsDistinct-tail is_text v.0 (keys_of values) apart))
 
   lined_cons : (symbol : List ℕ) (o : Option WishValue) (ws : List Pair) → is_symbol symbol ≡ true → ((value : WishValue) → o ≡ Some value → HasLine value) → All IsLined ws → All IsLined (cons_option (option_map (λ value. (symbol, value)) o) ws)
   lined_cons symbol None ws name line lined = lined

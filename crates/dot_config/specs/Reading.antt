@@ -1,7 +1,8 @@
 -- The wishes of a text, and its fault.
 use Rattle.std.specs.Prelude.{ℕ, ◌+◌, ◌≡◌, List, [], ◌∷◌, ◌++◌, length, All, if◌then◌else◌}
 use Rattle.std.specs.List.{list_any, AllZip}
-use Rattle.kc_text.specs.Lines.{is_text, raw_lines}
+use Rattle.kc_text.specs.Lines.{raw_lines}
+use Rattle.br_path.specs.Text.{is_text}
 use Rattle.kc_menu.specs.declared.wishes.Wish.{Wish}
 use Rattle.dot_config.specs.declared.line.Said.{Said}
 use Rattle.dot_config.specs.declared.line.Said.TheVariants.{Nothing, Asks}

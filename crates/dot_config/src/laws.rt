@@ -1,6 +1,6 @@
 //! What the grammar says of itself, and of what is written.
 ghost use Rattle.std.specs.Prelude.{◌≡◌, ◌⊎◌, ℕ, List};
-ghost use Rattle.kc_expr.specs.Values.{Table, IsTable};
+ghost use Rattle.kc_values.specs.Values.{Table, IsTable};
 ghost use Rattle.kc_menu.specs.declared.menu.KcEntry.{KcEntry};
 ghost use Rattle.kc_menu.specs.declared.wishes.Wish.{Wish};
 ghost use Rattle.dot_config.specs.Reading.{IsReading, IsFirstFault};

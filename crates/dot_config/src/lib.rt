@@ -20,8 +20,6 @@ mod laws;
 mod line;
 mod reader;
 mod symbols;
-#[cfg(test)]
-mod tests;
 mod writer;
 
 pub use error::WishError;

@@ -6,13 +6,13 @@ ghost use Rattle.kc_text.specs.Bytes.{of_symbol};
 ghost use Rattle.dot_config.specs.Line.{is_symbol, is_word, of_word, is_blank};
 ghost use Rattle.dot_config.specs.SaidBy.{said_by, comment, is_comment, unset_symbol, assigned, assignment, value_of, unquoted, next_byte, seen_byte};
 
-use br_path::{Bytes, Memory};
+use br_path::{Bytes, Memory, is_text};
 use kc_menu::WishValue;
-use kc_text::{is_blank as is_blank_byte, is_symbol_byte, is_text};
+use kc_text::{is_blank as is_blank_byte, is_symbol_byte};
 use std::alloc::Global;
 
 /// What a line says.
-#[derive(Debug, Drop)]
+#[derive(Drop)]
 pub enum Said {
     /// Nothing: it is blank, or a comment.
     Nothing,

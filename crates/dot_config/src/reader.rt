@@ -74,7 +74,7 @@ fn last_wishes(alloc: Global, mut all: Vec<Wish>) -> Result<Vec<Wish>, Memory>
     let mut later = Symbols::new(alloc);
     let mut last = Vec::new(alloc);
     while let Some(wish) = all.pop() {
-        if later.put(wish.symbol.copy()?)? {
+        if later.put(&wish.symbol)? {
             last.push(wish)?;
         }
     }

@@ -1,6 +1,6 @@
 //! Sets of symbols.
 ghost use Rattle.std.specs.Prelude.{◌≡◌, ◌||◌, not, ℕ, List, [], IfOk, OnOk};
-ghost use Rattle.kc_text.specs.Lines.{is_text};
+ghost use Rattle.br_path.specs.Text.{is_text};
 ghost use Rattle.dot_config.specs.Symbols.{has};
 
 use br_path::{Bytes, Memory};
@@ -9,9 +9,16 @@ use std::alloc::Global;
 use std::marker::Model;
 
 /// A set of symbols. Asking and putting take constant time.
-#[derive(Drop)]
 pub struct Symbols {
     names: IndexSet<Vec<u8>>,
+}
+
+// A proof then has one call at each place that lets a set go, and not one for each part of it.
+impl Drop for Symbols {
+    fn drop(self) {
+        let Symbols { names } = self;
+        drop(names);
+    }
 }
 
 impl Model for Symbols {
@@ -40,10 +47,11 @@ impl Symbols {
     }
 
     /// Puts a symbol in, and says whether it is new.
-    pub fn put(&mut self, symbol: Bytes) -> Result<bool, Memory>
-        ensures new { IfOk result (λ new. new ≡ not (has symbol self.old)) }
-        ensures put { OnOk result ((other : List ℕ) → has other self.new ≡ (is_text symbol other || has other self.old)) }
+    pub fn put(&mut self, symbol: &Bytes) -> Result<bool, Memory>
+        ensures new { IfOk result (λ new. new ≡ not (has symbol.now self.old)) }
+        ensures put { OnOk result ((other : List ℕ) → has other self.new ≡ (is_text symbol.now other || has other self.old)) }
     {
-        Ok(self.names.insert(symbol.items)?)
+        let name = symbol.copy()?;
+        Ok(self.names.insert(name.items)?)
     }
 }

@@ -6,10 +6,9 @@ ghost use Rattle.dot_config.specs.Symbols.{has};
 ghost use Rattle.dot_config.specs.Writing.{config_text, bool_wish, string_wish, int_wish, escaped, escaped_byte, wish_for, wish_text, line_of};
 
 use crate::symbols::Symbols;
-use br_path::{Bytes, Memory};
-use kc_expr::{Kind, Valued, Values};
+use br_path::{Bytes, Memory, is_text};
 use kc_menu::Menu;
-use kc_text::is_text;
+use kc_values::{Kind, Valued, Values};
 use std::alloc::Global;
 
 /// The text that states these values of the symbols of a menu. The time is proportional to the menu and the values.
@@ -31,7 +30,7 @@ fn visible_symbols(alloc: Global, menu: &Menu, values: &Values) -> Result<Symbol
     let mut visible = Symbols::new(alloc);
     for entry in menu.entries() {
         if entry.shows(values) {
-            visible.put(entry.symbol.copy()?)?;
+            visible.put(&entry.symbol)?;
         }
     }
     Ok(visible)

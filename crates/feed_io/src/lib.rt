@@ -18,8 +18,6 @@ mod memory_sink;
 mod read;
 mod sink;
 mod stream_sink;
-#[cfg(test)]
-mod tests;
 mod walk;
 
 pub use feed::{Feed, FeedError, FeedFile};

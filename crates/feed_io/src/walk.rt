@@ -89,7 +89,8 @@ impl<R: Files + AllocGlobal + Clone + Drop> Walk<R> {
     /// What stands at a path; none where one of the tops is missing.
     fn kind(&self, at: &str) -> Result<Option<Kind>, FeedError> {
         let wanted = wanted(at);
-        let kind = match fs::symlink_metadata(&self.rt, self.place(at)?.as_path()) {
+        let metadata = fs::symlink_metadata(&self.rt, self.place(at)?.as_path());
+        let kind = match metadata {
             Ok(metadata) if metadata.is_file() => Kind::File,
             Ok(metadata) if metadata.is_dir() => Kind::Folder,
             Err(error) if error.kind() == ErrorKind::NotFound && wanted.is_some() => {
@@ -105,11 +106,10 @@ impl<R: Files + AllocGlobal + Clone + Drop> Walk<R> {
 
     /// Reads the file at a path.
     fn read(&self, at: &str) -> Result<FeedFile, FeedError> {
-        let path = String::from_str(self.rt.alloc(), at)?;
+        let file = fs::open(&self.rt, self.place(at)?.as_path())?;
         let mut items = Vec::new(self.rt.alloc());
-        fs::open(&self.rt, self.place(at)?.as_path())?
-            .take(MOST_BYTES)
-            .read_to_end(&mut items)?;
+        file.take(MOST_BYTES).read_to_end(&mut items)?;
+        let path = String::from_str(self.rt.alloc(), at)?;
         Ok(FeedFile {
             path: Bytes {
                 items: path.into_bytes(),
@@ -121,8 +121,9 @@ impl<R: Files + AllocGlobal + Clone + Drop> Walk<R> {
     /// The paths of what is directly in the folder at a path, the last first.
     fn list(&mut self, at: &str) -> Result<Vec<String>, FeedError> {
         let alloc = self.rt.alloc();
+        let entries = fs::read_dir(&self.rt, self.place(at)?.as_path())?;
         let mut paths = Vec::new(alloc);
-        for entry in fs::read_dir(&self.rt, self.place(at)?.as_path())? {
+        for entry in entries {
             let entry = entry?;
             self.entries_left = self.entries_left.checked_sub(1).ok_or(FeedError::Failed)?;
             let name = entry.file_name();

@@ -12,7 +12,7 @@ use br_path::{Files, Memory};
 use std::alloc::Global;
 
 /// What the line of a recipe says that installs a file.
-#[derive(Clone, Copy, Debug)]
+#[derive(Clone, Copy)]
 pub(crate) struct InstallLine<'a> {
     /// The mode that the file is installed with.
     pub mode: u16,

@@ -3,11 +3,10 @@ use Rattle.std.proofs.Common.{ℕ, zero, suc, ◌≡◌, ◌⊎◌, inl, inr, �
 use Rattle.std.specs.List.{list_any}
 use Rattle.std.specs.Option.{option_map_or, option_or}
 use Rattle.std.proofs.lemmas.Bool.{cases_Bool, eqb-true, or_left, or_right, and_parts, and_from, and_right, false≢true, true≢false}
-use Rattle.kc_text.specs.Lines.{is_text}
-use Rattle.kc_expr.specs.Values.{Table}
-use Rattle.kc_expr.specs.Values.{find as valued}
-use Rattle.kc_expr.specs.Holds.{holds, is_y, is_yes, is_bool}
-use Rattle.kc_expr.specs.declared.expr.Kind.TheVariants.{Bool as BoolKind}
+use Rattle.br_path.specs.Text.{is_text}
+use Rattle.kc_values.specs.Values.{Table, find as valued, is_y, is_yes, is_bool}
+use Rattle.kc_expr.specs.Holds.{holds}
+use Rattle.kc_values.specs.declared.kind.Kind.TheVariants.{Bool as BoolKind}
 use Rattle.kc_menu.specs.Menu.{Declared}
 use Rattle.kc_menu.specs.Visible.{shows, is_visible}
 use Rattle.kc_menu.specs.declared.menu.KcEntry.{KcEntry}

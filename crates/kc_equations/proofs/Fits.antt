@@ -1,10 +1,10 @@
 -- The value that an equation gives a declared symbol is fit for its type.
 use Rattle.std.proofs.Common.{ℕ, ◌≡◌, ◌⊎◌, inl, inr, Bool, true, false, ◌||◌, List, [], codes, Option, Some, None, refl, sym, ap, subst, ◌∙◌}
 use Rattle.std.specs.Option.{option_map_or}
-use Rattle.kc_text.specs.Lines.{is_text}
-use Rattle.kc_expr.specs.Values.{Table, IsFit}
-use Rattle.kc_expr.specs.declared.expr.Kind.{Kind}
-use Rattle.kc_expr.specs.declared.expr.Kind.TheVariants.{Bool as BoolKind, Text as TextKind, Int as IntKind}
+use Rattle.br_path.specs.Text.{is_text}
+use Rattle.kc_values.specs.Values.{Table, IsFit}
+use Rattle.kc_values.specs.declared.kind.Kind.{Kind}
+use Rattle.kc_values.specs.declared.kind.Kind.TheVariants.{Bool as BoolKind, Text as TextKind, Int as IntKind}
 use Rattle.kc_menu.specs.Menu.{Declared}
 use Rattle.kc_menu.specs.declared.menu.SymbolIf.{SymbolIf}
 use Rattle.kc_menu.specs.declared.menu.KcEntry.{KcEntry}

@@ -3,7 +3,7 @@ use Rattle.std.proofs.Common.{ℕ, ◌≡◌, ◌≢◌, Bool, true, false, List
 use Rattle.std.specs.Cmp.Lexicographic.{slice_cmp, nat_list_cmp_total, texts_ties}
 use Rattle.std.specs.Ordering.{nat_cmp, is_le, is_eq, ordering_reverse}
 use Rattle.std.proofs.lemmas.Bool.{false≢true, true≢false}
-use Rattle.kc_expr.specs.Values.{Table}
+use Rattle.kc_values.specs.Values.{Table}
 use Rattle.kc_menu.specs.Menu.{Declared}
 use Rattle.kc_menu.specs.declared.wishes.Wish.{Wish}
 use Rattle.kc_equations.specs.Faults.{IsLeast, is_named_member, is_named_value, is_bad_number, NoCycle, IsFirstFault, IsSolved}

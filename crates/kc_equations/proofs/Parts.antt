@@ -2,10 +2,9 @@
 use Rattle.std.proofs.Common.{ℕ, ◌≡◌, true, false, cond, List, [], ◌∷◌, ◌++◌, Option, Some, None, is_some, refl, sym, ap, subst, ◌∙◌, ⊎_elim}
 use Rattle.std.specs.Option.{option_or}
 use Rattle.std.proofs.lemmas.Bool.{cases_Bool, false≢true, true≢false}
-use Rattle.kc_text.specs.Lines.{is_text}
-use Rattle.kc_expr.specs.Values.{Table}
-use Rattle.kc_expr.specs.Values.{find as valued}
-use Rattle.kc_expr.specs.declared.values.Valued.{Valued}
+use Rattle.br_path.specs.Text.{is_text}
+use Rattle.kc_values.specs.Values.{Table, find as valued}
+use Rattle.kc_values.specs.declared.values.Valued.{Valued}
 use Rattle.kc_menu.specs.Menu.{Declared}
 use Rattle.kc_menu.specs.declared.wishes.Wish.{Wish}
 use Rattle.kc_equations.specs.Equation.{equation}

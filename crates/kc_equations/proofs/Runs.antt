@@ -5,10 +5,9 @@ use Rattle.std.specs.List.{list_any}
 use Rattle.std.specs.Map.{lookup}
 use Rattle.std.proofs.lemmas.Bool.{cases_Bool, or_left, or_right, and_from, cond-true, cond-false, false≢true}
 use Rattle.std.proofs.lemmas.List.Folds.{list_any-append}
-use Rattle.kc_text.specs.Lines.{is_text}
-use Rattle.kc_expr.specs.Values.{Table}
-use Rattle.kc_expr.specs.Values.{find as valued}
-use Rattle.kc_expr.specs.declared.values.Valued.{Valued}
+use Rattle.br_path.specs.Text.{is_text}
+use Rattle.kc_values.specs.Values.{Table, find as valued}
+use Rattle.kc_values.specs.declared.values.Valued.{Valued}
 use Rattle.kc_menu.specs.Menu.{Declared}
 use Rattle.kc_menu.specs.declared.menu.KcEntry.{KcEntry}
 use Rattle.kc_menu.specs.declared.wishes.Wish.{Wish}

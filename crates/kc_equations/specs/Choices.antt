@@ -1,10 +1,8 @@
 -- What the choices of a solution are like.
 use Rattle.std.specs.Prelude.{ℕ, ◌≡◌, ◌⊎◌, Bool, true, false, List, Some, slice_get}
 use Rattle.std.specs.List.{list_any}
-use Rattle.kc_text.specs.Lines.{is_text}
-use Rattle.kc_expr.specs.Values.{Table}
-use Rattle.kc_expr.specs.Values.{find as valued}
-use Rattle.kc_expr.specs.Holds.{is_yes}
+use Rattle.br_path.specs.Text.{is_text}
+use Rattle.kc_values.specs.Values.{Table, find as valued, is_yes}
 use Rattle.kc_menu.specs.Menu.{Declared, IsMenu}
 use Rattle.kc_menu.specs.Visible.{shows, is_visible}
 use Rattle.kc_menu.specs.declared.menu.KcEntry.{KcEntry}

@@ -2,13 +2,12 @@
 use Rattle.std.specs.Prelude.{ℕ, Bool, false, ◌&&◌, ◌||◌, ◌==◌, List, [], ◌∷◌, map, filter, find, flat_map, reverse, Option, Some, None, unwrap_or, option_map, option_and_then, slice_get, codes, if◌then◌else◌}
 use Rattle.std.specs.List.{list_any}
 use Rattle.std.specs.Option.{option_map_or, option_or}
-use Rattle.kc_text.specs.Lines.{is_text}
-use Rattle.kc_expr.specs.Values.{Table}
-use Rattle.kc_expr.specs.Values.{find as valued}
-use Rattle.kc_expr.specs.Holds.{holds, is_y, is_yes, text_of}
+use Rattle.br_path.specs.Text.{is_text}
+use Rattle.kc_values.specs.Values.{Table, find as valued, is_y, is_yes}
+use Rattle.kc_expr.specs.Holds.{holds, text_of}
 use Rattle.kc_expr.specs.declared.expr.Expr.{Expr, Holds}
-use Rattle.kc_expr.specs.declared.expr.Kind.{Kind}
-use Rattle.kc_expr.specs.declared.expr.Kind.TheVariants.{Bool as BoolKind, Text as TextKind, Int as IntKind}
+use Rattle.kc_values.specs.declared.kind.Kind.{Kind}
+use Rattle.kc_values.specs.declared.kind.Kind.TheVariants.{Bool as BoolKind, Text as TextKind, Int as IntKind}
 use Rattle.kc_menu.specs.Menu.{Declared}
 use Rattle.kc_menu.specs.Visible.{all_hold, some_holds, shows, is_visible}
 use Rattle.kc_menu.specs.declared.menu.KcDefault.{KcDefault}

@@ -6,13 +6,11 @@ use Rattle.std.specs.Option.{option_map_or}
 use Rattle.std.specs.Cmp.Lexicographic.{slice_cmp}
 use Rattle.std.specs.Ordering.{nat_cmp, is_le}
 use Rattle.std.specs.Char.{is_ascii_digit}
-use Rattle.kc_text.specs.Lines.{is_text}
-use Rattle.kc_expr.specs.Values.{Table}
-use Rattle.kc_expr.specs.Values.{find as valued}
-use Rattle.kc_expr.specs.Holds.{is_bool, is_yes}
-use Rattle.kc_expr.specs.declared.values.Valued.{Valued}
-use Rattle.kc_expr.specs.declared.expr.Kind.{Kind}
-use Rattle.kc_expr.specs.declared.expr.Kind.TheVariants.{Bool as BoolKind, Text as TextKind, Int as IntKind}
+use Rattle.br_path.specs.Text.{is_text}
+use Rattle.kc_values.specs.Values.{Table, find as valued, is_bool, is_yes}
+use Rattle.kc_values.specs.declared.values.Valued.{Valued}
+use Rattle.kc_values.specs.declared.kind.Kind.{Kind}
+use Rattle.kc_values.specs.declared.kind.Kind.TheVariants.{Bool as BoolKind, Text as TextKind, Int as IntKind}
 use Rattle.kc_menu.specs.Menu.{Declared}
 use Rattle.kc_menu.specs.Visible.{all_hold}
 use Rattle.kc_menu.specs.declared.menu.KcEntry.{KcEntry}

@@ -5,9 +5,9 @@ ghost use Rattle.kc_equations.specs.Choices.{has_visible};
 ghost use Rattle.kc_equations.specs.Equation.{shows_choice, is_wished_y, wished_member, default_member, first_member, taken};
 ghost use Rattle.kc_menu.specs.Visible.{is_visible};
 
-use kc_expr::Values;
+use br_path::is_text;
 use kc_menu::{KcChoice, KcEntry, Wish, WishValue};
-use kc_text::is_text;
+use kc_values::Values;
 
 /// The symbol of the member that a choice takes at some values; none where the choice isn't visible or no member is.
 ///

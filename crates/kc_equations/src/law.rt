@@ -1,6 +1,6 @@
 //! What is true of each configuration.
 ghost use Rattle.std.specs.Prelude.{ℕ, List};
-ghost use Rattle.kc_expr.specs.Values.{Table};
+ghost use Rattle.kc_values.specs.Values.{Table};
 ghost use Rattle.kc_menu.specs.Menu.{Declared};
 ghost use Rattle.kc_menu.specs.declared.menu.KcChoice.{KcChoice};
 ghost use Rattle.kc_menu.specs.declared.wishes.Wish.{Wish};

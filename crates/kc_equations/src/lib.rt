@@ -13,8 +13,6 @@ mod choice;
 mod fault;
 mod law;
 mod outside;
-#[cfg(test)]
-mod tests;
 
 pub use choice::taken;
 pub use fault::SolveFault;

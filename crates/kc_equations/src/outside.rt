@@ -2,11 +2,12 @@
 ghost use Rattle.std.specs.Prelude.{◌≡◌, find, option_copied};
 ghost use Rattle.kc_equations.specs.Behind.{behind, selects_behind};
 ghost use Rattle.kc_equations.specs.Equation.{counts, is_shown, default_of, fitting, fitting_word, wished, base, is_effective, is_selected, bool_text, default_text, value_text, text_by_kind};
-ghost use Rattle.kc_expr.specs.Holds.{is_yes, text_of};
+ghost use Rattle.kc_expr.specs.Holds.{text_of};
 
-use kc_expr::{Atom, Expr, Kind, Valued, Values};
+use br_path::is_text;
+use kc_expr::{Atom, Expr};
 use kc_menu::{KcDefault, KcEntry, SymbolIf, WishValue};
-use kc_text::is_text;
+use kc_values::{Kind, Values};
 
 /// The text that the equation of a symbol outside choices gives at some values.
 ///
@@ -71,17 +72,7 @@ fn is_selected(values: &Values, selects: &[(&KcEntry, &SymbolIf)]) -> bool
 fn is_effective(values: &Values, entry: &KcEntry, select: &SymbolIf) -> bool
     ensures { result ≡ is_effective values.now entry.now select.now }
 {
-    is_yes(values.find(entry.symbol.as_slice())) && counts(values, entry, &select.condition)
-}
-
-/// Whether it is a bool that is y.
-fn is_yes(found: Option<&Valued>) -> bool
-    ensures { result ≡ is_yes (option_copied found.entry) }
-{
-    match found {
-        Some(valued) => valued.kind == Kind::Bool && is_text(valued.text.as_slice(), b"y"),
-        None => false,
-    }
+    values.is_yes(entry.symbol.as_slice()) && counts(values, entry, &select.condition)
 }
 
 #[tactic(auto, unfolding(crate::specs::Equation::value_text))]

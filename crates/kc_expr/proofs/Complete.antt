@@ -8,7 +8,7 @@ use Rattle.kc_text.specs.declared.part.Part.TheVariants.{Word as WordPart, Quote
 use Rattle.kc_expr.specs.declared.expr.Atom.{Atom}
 use Rattle.kc_expr.specs.declared.expr.Expr.{Expr, Holds, Same, Differ}
 use Rattle.kc_expr.specs.declared.expr.Expr.TheViews as views
-use Rattle.kc_expr.specs.Values.{same_text}
+use Rattle.br_path.specs.Text.{is_text}
 use Rattle.kc_expr.specs.Read.{Left, Reading, given, behind, atom, compared, simple, behind_and, behind_or, more, chain, conjunction, disjunction, close, negated, grouped, deeper_in, item, expression}
 use Rattle.kc_expr.specs.Grammar.{IsAtom, IsSimple, IsChain, IsConjunction, IsDisjunction, IsDeeper, IsItem, IsCondition, EndsCondition, is_atom, atoms}
 use Rattle.kc_expr.proofs.Chains.{more_ends, more_goes}
@@ -27,7 +27,7 @@ EndsItem _ = ⊤
 atom_reads : (a : Atom) (p : Part) (rest : List Part) (n : ℕ) → IsAtom a p → 1 ≤ n → atom (behind (p ∷ rest) n) ≡ Some (a, behind rest (n - 1))
 unfolding atom
 atom_reads a p rest n (IsAtom.word w other) room =
-    rw (false_from_ne_true (same_text w (codes "m")) (λ same. other (texts_same w (codes "m") (sym same))), ne_eqb n 0 (λ none. absurd (omega (arith, none, room)))) refl
+    rw (false_from_ne_true (is_text w (codes "m")) (λ same. other (texts_same w (codes "m") (sym same))), ne_eqb n 0 (λ none. absurd (omega (arith, none, room)))) refl
 atom_reads a p rest n (IsAtom.quoted t) room = rw (ne_eqb n 0 (λ none. absurd (omega (arith, none, room)))) refl
 
 compared_alone : (a : Atom) (rest : List Part) (n : ℕ) → EndsItem rest → compared a rest n ≡ Some (Holds a, behind rest n)

@@ -3,7 +3,7 @@ use Rattle.std.proofs.Common.{◌≡◌, refl, Bool, true, false}
 use Rattle.std.specs.Prelude.{◌&&◌, ◌||◌, not}
 use Rattle.kc_expr.specs.declared.expr.Expr.{Expr}
 use Rattle.kc_expr.specs.declared.expr.Expr.TheViews as views
-use Rattle.kc_expr.specs.Values.{Table}
+use Rattle.kc_values.specs.Values.{Table}
 use Rattle.kc_expr.specs.Holds.{holds}
 
 pub holds_and : (values : Table) (left right : Expr) → holds values (views.And left right) ≡ (holds values left && holds values right)

@@ -4,4 +4,3 @@ pub mod Conds
 pub mod Found
 pub mod Loops
 pub mod Sound
-pub mod Tables

@@ -10,7 +10,7 @@ use Rattle.kc_expr.specs.declared.expr.Atom.{Atom}
 use Rattle.kc_expr.specs.declared.expr.Atom.TheVariants.{Word, Quoted}
 use Rattle.kc_expr.specs.declared.expr.Expr.{Expr, Holds, Same, Differ}
 use Rattle.kc_expr.specs.declared.expr.Expr.TheViews as views
-use Rattle.kc_expr.specs.Values.{same_text}
+use Rattle.br_path.specs.Text.{is_text}
 use Rattle.kc_expr.specs.Read.{Left, Reading, given, behind, atom, atom_in, counted, compared, simple, behind_and, behind_or, behind_close, more, chain, conjunction, disjunction, close, negated, grouped, deeper_in, item, expression}
 use Rattle.kc_expr.specs.Grammar.{IsAtom, IsSimple, IsChain, IsConjunction, IsDisjunction, IsDeeper, IsItem, IsCondition, is_atom, atoms}
 
@@ -70,14 +70,14 @@ counted_sound n parts a p is false e =
     let one : atoms (p ∷ []) ≡ 1 = atoms_one a p is in
     (p ∷ [], refl, omega (arith, eqb-false n 0 e, one), (p, refl, is))
 
-word_sound : (n : ℕ) (parts : List Part) (w : List ℕ) (t : Bool) → same_text w (codes "m") ≡ t →
+word_sound : (n : ℕ) (parts : List Part) (w : List ℕ) (t : Bool) → is_text w (codes "m") ≡ t →
     Sound IsWritten (behind (WordPart w ∷ parts) n) (given (cond t None (Some (Word w))) None (counted n parts))
 word_sound n parts w true e = tt
 word_sound n parts w false e = counted_sound n parts (Word w) (WordPart w) (IsAtom.word w (other_text w (codes "m") (sym e))) (n == 0) refl
 
 atom_in_sound : (parts : List Part) (n : ℕ) → Sound IsWritten (behind parts n) (atom_in parts n)
 atom_in_sound [] n = tt
-atom_in_sound (WordPart w ∷ parts) n = word_sound n parts w (same_text w (codes "m")) refl
+atom_in_sound (WordPart w ∷ parts) n = word_sound n parts w (is_text w (codes "m")) refl
 atom_in_sound (QuotedPart t ∷ parts) n = counted_sound n parts (Quoted t) (QuotedPart t) (IsAtom.quoted t) (n == 0) refl
 atom_in_sound (OrPart ∷ parts) n = tt
 atom_in_sound (AndPart ∷ parts) n = tt

@@ -1,10 +1,11 @@
 -- Which condition holds at which values.
 use Rattle.std.specs.Prelude.{ℕ, Bool, true, false, ◌&&◌, ◌||◌, not, List, Option, Some, None, codes, unwrap_or}
 use Rattle.std.specs.Option.{option_map}
-use Rattle.kc_expr.specs.Values.{Table, find, same_text}
-use Rattle.kc_expr.specs.declared.values.Valued.{Valued}
-use Rattle.kc_expr.specs.declared.expr.Kind.{Kind}
-use Rattle.kc_expr.specs.declared.expr.Kind.TheVariants.{Bool as BoolKind, Text as TextKind, Int as IntKind}
+use Rattle.kc_values.specs.Values.{Table, find, is_y, is_yes}
+use Rattle.br_path.specs.Text.{is_text}
+use Rattle.kc_values.specs.declared.values.Valued.{Valued}
+use Rattle.kc_values.specs.declared.kind.Kind.{Kind}
+use Rattle.kc_values.specs.declared.kind.Kind.TheVariants.{Bool as BoolKind, Text as TextKind, Int as IntKind}
 use Rattle.kc_expr.specs.declared.expr.Atom.{Atom}
 use Rattle.kc_expr.specs.declared.expr.Atom.TheVariants.{Word, Quoted}
 use Rattle.kc_expr.specs.declared.expr.Expr.{Expr, True, And', Or', Not', Holds, Same, Differ, more_of-Expr}
@@ -14,26 +15,13 @@ abbrev pub text_of : Table → Atom → List ℕ
 text_of values (Word word) = unwrap_or (option_map (λ v. v.text) (find word values)) word
 text_of values (Quoted text) = text
 
-abbrev pub is_y : List ℕ → Bool
-is_y text = same_text text (codes "y")
-
-abbrev pub is_bool : Kind → Bool
-is_bool BoolKind = true
-is_bool TextKind = false
-is_bool IntKind = false
-
--- a symbol is a bool that is y
-abbrev pub is_yes : Option Valued → Bool
-is_yes (Some v) = is_bool v.kind && is_y v.text
-is_yes None = false
-
 -- an atom alone holds where it is the text `y`, or names a bool that is y
 abbrev pub atom_holds : Table → Atom → Bool
 atom_holds values (Word word) = is_y word || is_yes (find word values)
 atom_holds values (Quoted text) = is_y text
 
 abbrev pub same_texts : Table → Atom → Atom → Bool
-same_texts values left right = same_text (text_of values left) (text_of values right)
+same_texts values left right = is_text (text_of values left) (text_of values right)
 
 -- the condition holds
 abbrev pub holds : Table → Expr → Bool

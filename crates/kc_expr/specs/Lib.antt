@@ -2,4 +2,3 @@ pub mod Grammar
 pub mod Holds
 pub mod Read
 pub mod ShownLeft
-pub mod Values

@@ -2,7 +2,7 @@
 use Rattle.std.specs.Prelude.{ℕ, zero, suc, ◌-◌, ◌==◌, List, [], ◌∷◌, Option, Some, None, codes, if◌then◌else◌}
 use Rattle.kc_text.specs.declared.part.Part.{Part}
 use Rattle.kc_text.specs.declared.part.Part.TheVariants.{Word as WordPart, Quoted as QuotedPart, Or as OrPart, And as AndPart, Not as NotPart, Same as SamePart, Differ as DifferPart, Open, Close}
-use Rattle.kc_expr.specs.Values.{same_text}
+use Rattle.br_path.specs.Text.{is_text}
 use Rattle.kc_expr.specs.declared.expr.Atom.{Atom}
 use Rattle.kc_expr.specs.declared.expr.Atom.TheVariants.{Word, Quoted}
 use Rattle.kc_expr.specs.declared.expr.Expr.{Expr, Holds, Same, Differ}
@@ -27,7 +27,7 @@ behind parts atoms = record { parts = parts; atoms = atoms }
 
 -- the atom that a part is: a bare word but `m`, or a quoted text
 abbrev pub atom_of : Part → Option Atom
-atom_of (WordPart word) = if same_text word (codes "m") then None else Some (Word word)
+atom_of (WordPart word) = if is_text word (codes "m") then None else Some (Word word)
 atom_of (QuotedPart text) = Some (Quoted text)
 atom_of _ = None
 

@@ -6,19 +6,8 @@ use br_path::{Bytes, Memory};
 use sqlite_items::Boxed;
 use std::alloc::Global;
 
-/// What values a symbol has.
-#[derive(Clone, Copy, Debug, PartialEq, Eq)]
-pub enum Kind {
-    /// `y` or `n`.
-    Bool,
-    /// Any text.
-    Text,
-    /// Digits, perhaps behind a `-`, or nothing.
-    Int,
-}
-
 /// What stands for a text in a condition.
-#[derive(Debug, Drop)]
+#[derive(Debug)]
 pub enum Atom {
     /// A bare word: the value of the symbol of this name, or the word itself where no symbol has it.
     Word(Bytes),
@@ -27,7 +16,7 @@ pub enum Atom {
 }
 
 /// A condition.
-#[derive(Debug, Drop)]
+#[derive(Debug)]
 pub enum Expr {
     /// The condition that isn't written.
     True,
@@ -40,6 +29,29 @@ pub enum Expr {
     Same(Atom, Atom),
     /// The texts aren't equal.
     Differ(Atom, Atom),
+}
+
+// Atoms and conditions have a `drop` of their own. A proof then has one call at each place that lets one go, and not a walk of
+// all its forms.
+impl Drop for Atom {
+    fn drop(self) {
+        match self {
+            Atom::Word(_) | Atom::Quoted(_) => {}
+        }
+    }
+}
+
+impl Drop for Expr {
+    fn drop(self) {
+        match self {
+            Expr::True | Expr::Holds(_) | Expr::Same(_, _) | Expr::Differ(_, _) => {}
+            Expr::And(left, right) | Expr::Or(left, right) => {
+                drop(left);
+                drop(right);
+            }
+            Expr::Not(inner) => drop(inner),
+        }
+    }
 }
 
 impl Atom {

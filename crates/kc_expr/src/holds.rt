@@ -1,11 +1,11 @@
 //! Which condition holds.
 ghost use Rattle.std.specs.Prelude.{◌≡◌};
-ghost use Rattle.std.specs.Option.{option_copied};
-ghost use Rattle.kc_expr.specs.Holds.{holds, atom_holds, same_texts, is_y, text_of, is_yes};
+ghost use Rattle.kc_expr.specs.Holds.{holds, atom_holds, same_texts, text_of};
+ghost use Rattle.kc_values.specs.Values.{is_y, is_yes};
 
-use crate::expr::{Atom, Expr, Kind};
-use crate::values::{Valued, Values};
-use kc_text::is_text;
+use crate::expr::{Atom, Expr};
+use br_path::is_text;
+use kc_values::Values;
 
 impl Expr {
     /// Whether the condition holds, where the declared symbols are those of the values.
@@ -29,7 +29,7 @@ fn atom_holds(atom: &Atom, values: &Values) -> bool
     ensures { result ≡ atom_holds values.now atom.now }
 {
     match atom {
-        Atom::Word(word) => is_y(word.as_slice()) || is_yes(values.find(word.as_slice())),
+        Atom::Word(word) => is_y(word.as_slice()) || values.is_yes(word.as_slice()),
         Atom::Quoted(text) => is_y(text.as_slice()),
     }
 }
@@ -38,16 +38,6 @@ fn is_y(text: &[u8]) -> bool
     ensures { result ≡ is_y text.now }
 {
     is_text(text, b"y")
-}
-
-// Whether it is a bool that is y.
-fn is_yes(found: Option<&Valued>) -> bool
-    ensures { result ≡ is_yes (option_copied found.entry) }
-{
-    match found {
-        Some(valued) => valued.kind == Kind::Bool && is_y(valued.text.as_slice()),
-        None => false,
-    }
 }
 
 fn same_texts(left: &Atom, right: &Atom, values: &Values) -> bool

@@ -8,10 +8,6 @@
 mod expr;
 mod holds;
 mod read;
-#[cfg(test)]
-mod tests;
-mod values;
 
-pub use expr::{Atom, Expr, Kind};
+pub use expr::{Atom, Expr};
 pub use read::{conditions_are_read, expression};
-pub use values::{Valued, Values};

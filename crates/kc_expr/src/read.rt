@@ -8,8 +8,8 @@ ghost use Rattle.kc_expr.specs.Read.{atom_of, atom, simple, compared, behind_and
 ghost use Rattle.kc_expr.specs.ShownLeft.{shown, seen, front};
 
 use crate::expr::{Atom, Expr, and, not, or};
-use br_path::Memory;
-use kc_text::{Part, is_text};
+use br_path::{Memory, is_text};
+use kc_text::Part;
 use std::alloc::Global;
 
 /// How many brackets and `!` may be open at a place.

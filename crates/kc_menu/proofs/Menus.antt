@@ -2,7 +2,7 @@
 use Rattle.std.proofs.Common.{◌≡◌, List, [], ◌∷◌, None, sym, subst, ◌∙◌}
 use Rattle.std.specs.Prelude.{All}
 use Rattle.std.proofs.lemmas.List.Elements.{All-nil, All-cons, All-contains}
-use Rattle.kc_expr.specs.declared.expr.Kind.TheVariants.{Bool as BoolKind}
+use Rattle.kc_values.specs.declared.kind.Kind.TheVariants.{Bool as BoolKind}
 use Rattle.kc_menu.specs.declared.menu.KcEntry.{KcEntry}
 use Rattle.kc_menu.specs.declared.menu.KcChoice.{KcChoice}
 use Rattle.kc_menu.specs.Menu.{IsMenu}

@@ -1,6 +1,6 @@
 -- What the configuration files declare.
 use Rattle.std.specs.Prelude.{ℕ, ◌≡◌, ◌≢◌, ◌<◌, List, Some, length, All, Contains}
-use Rattle.kc_expr.specs.declared.expr.Kind.TheVariants.{Bool as BoolKind}
+use Rattle.kc_values.specs.declared.kind.Kind.TheVariants.{Bool as BoolKind}
 use Rattle.kc_expr.specs.declared.expr.Atom.{Atom}
 use Rattle.kc_expr.specs.declared.expr.Expr.{Holds}
 use Rattle.kc_menu.specs.declared.menu.KcDefault.{KcDefault}

@@ -1,8 +1,8 @@
 -- Which symbol is visible at which values.
 use Rattle.std.specs.Prelude.{ℕ, Bool, ◌&&◌, List}
 use Rattle.std.specs.List.{list_all, list_any}
-use Rattle.kc_text.specs.Lines.{is_text}
-use Rattle.kc_expr.specs.Values.{Table}
+use Rattle.br_path.specs.Text.{is_text}
+use Rattle.kc_values.specs.Values.{Table}
 use Rattle.kc_expr.specs.Holds.{holds}
 use Rattle.kc_expr.specs.declared.expr.Expr.{Expr}
 use Rattle.kc_menu.specs.declared.menu.KcEntry.{KcEntry}

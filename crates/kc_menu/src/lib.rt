@@ -6,8 +6,6 @@
 #![tactic(auto)]
 
 mod menu;
-#[cfg(test)]
-mod tests;
 mod visible;
 mod wishes;
 

@@ -2,7 +2,8 @@
 ghost use Rattle.std.specs.Prelude.{◌≡◌};
 
 use br_path::Bytes;
-use kc_expr::{Expr, Kind};
+use kc_expr::Expr;
+use kc_values::Kind;
 use std::marker::Model;
 
 /// Conditions in their order.

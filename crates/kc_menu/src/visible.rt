@@ -3,8 +3,8 @@ ghost use Rattle.std.specs.Prelude.{◌≡◌};
 ghost use Rattle.kc_menu.specs.Visible.{all_hold, some_holds, shows, is_visible};
 
 use crate::menu::{Exprs, KcEntry, Menu};
-use kc_expr::Values;
-use kc_text::is_text;
+use br_path::is_text;
+use kc_values::Values;
 
 impl Exprs {
     /// Whether all conditions hold at these values, as dependencies must.

@@ -5,7 +5,7 @@ use br_path::Bytes;
 use std::marker::Model;
 
 /// What is wished of a symbol.
-#[derive(Debug, Drop)]
+#[derive(Debug)]
 pub enum WishValue {
     /// That it is n, by the line `# S is not set`.
     No,
@@ -13,6 +13,15 @@ pub enum WishValue {
     Word(Bytes),
     /// A quoted text, without the quotes and the backslashes that quote the byte behind them.
     Quoted(Bytes),
+}
+
+// A proof then has one call at each place that lets a value go, and not a walk of its forms.
+impl Drop for WishValue {
+    fn drop(self) {
+        match self {
+            WishValue::No | WishValue::Word(_) | WishValue::Quoted(_) => {}
+        }
+    }
 }
 
 /// What a line asks of a symbol.

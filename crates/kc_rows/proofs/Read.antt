@@ -1,12 +1,12 @@
 -- What is read of a line stands in the table.
 use Rattle.std.proofs.Common.{◌≡◌, ◌⊎◌, inl, inr, refl, Bool, true, false, ℕ, ◌+◌, ◌==◌, List, [], ◌∷◌, length, Option, Some, None, IfSome, option_map, codes, if◌then◌else◌, ◌++◌, append-nil, subst, sym, ◌∙◌}
 use Rattle.std.proofs.lemmas.Option.{IfSome_then}
-use Rattle.kc_text.specs.Lines.{is_text}
+use Rattle.br_path.specs.Text.{is_text}
 use Rattle.kc_text.specs.declared.part.Part.{Part}
 use Rattle.kc_text.specs.declared.part.Part.TheVariants.{Word as WordPart, Quoted as QuotedPart}
 use Rattle.kc_expr.specs.Read.{expression, given}
-use Rattle.kc_expr.specs.declared.expr.Kind.{Kind}
-use Rattle.kc_expr.specs.declared.expr.Kind.TheVariants.{Bool as BoolKind, Text as TextKind, Int as IntKind}
+use Rattle.kc_values.specs.declared.kind.Kind.{Kind}
+use Rattle.kc_values.specs.declared.kind.Kind.TheVariants.{Bool as BoolKind, Text as TextKind, Int as IntKind}
 use Rattle.kc_expr.specs.declared.expr.Atom.TheVariants.{Word}
 use Rattle.kc_expr.specs.declared.expr.Expr.{Expr, Holds}
 use Rattle.kc_rows.specs.Keyword.{keyword}

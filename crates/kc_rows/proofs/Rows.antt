@@ -1,7 +1,7 @@
 -- A line of the table is read as its row.
 use Rattle.std.proofs.Common.{◌≡◌, refl, sym, ◌∙◌, ap, Bool, true, false, List, [], ◌∷◌, Some, None, codes, ◌++◌, subst, append-nil}
 use Rattle.std.proofs.lemmas.Option.{none-some, same_Some}
-use Rattle.kc_text.specs.Lines.{is_text}
+use Rattle.br_path.specs.Text.{is_text}
 use Rattle.kc_text.specs.declared.part.Part.{Part}
 use Rattle.kc_text.specs.declared.part.Part.TheVariants.{Word as WordPart}
 use Rattle.kc_expr.specs.Read.{expression, disjunction, conjunction, chain, item, simple, atom}

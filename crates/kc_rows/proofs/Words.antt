@@ -2,7 +2,7 @@
 use Rattle.std.proofs.Common.{◌≡◌, ◌⊎◌, ⊎_elim, inl, inr, true, List, [], ◌∷◌, ℕ, IfSome, codes, ◌||◌}
 use Rattle.std.specs.Cmp.Lexicographic.{bytes_decides}
 use Rattle.std.proofs.lemmas.Bool.{or_cases}
-use Rattle.kc_text.specs.Lines.{is_text}
+use Rattle.br_path.specs.Text.{is_text}
 use Rattle.kc_rows.specs.Keyword.{keyword, block_word, type_word, attribute_word}
 use Rattle.kc_rows.specs.declared.keyword.Keyword.{Keyword}
 use Rattle.kc_rows.specs.declared.keyword.Keyword.TheVariants.{MainMenu, Source, Menu, EndMenu, If, EndIf, Choice, EndChoice, Comment, Config, Bool as BoolWord, Text, Int, Prompt, DefBool, Default, Depends, Select, Help, DashedHelp}

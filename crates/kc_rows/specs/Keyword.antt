@@ -1,7 +1,7 @@
 -- The first words of lines.
 use Rattle.std.specs.Prelude.{ℕ, ◌||◌, List, Option, Some, None, codes, if◌then◌else◌}
 use Rattle.std.specs.Option.{option_or}
-use Rattle.kc_text.specs.Lines.{is_text}
+use Rattle.br_path.specs.Text.{is_text}
 use Rattle.kc_rows.specs.declared.keyword.Keyword.{Keyword}
 use Rattle.kc_rows.specs.declared.keyword.Keyword.TheVariants.{MainMenu, Source, Menu, EndMenu, If, EndIf, Choice, EndChoice, Comment, Config, Bool as BoolWord, Text, Int, Prompt, DefBool, Default, Depends, Select, Help, DashedHelp}
 

@@ -3,12 +3,12 @@ use Rattle.std.specs.Prelude.{ℕ, ◌+◌, Bool, ◌==◌, ◌&&◌, nat_lt, Li
 use Rattle.std.specs.Option.{option_map}
 use Rattle.std.specs.List.{list_all}
 use Rattle.kc_text.specs.Bytes as byte_is
-use Rattle.kc_text.specs.Lines.{is_text}
+use Rattle.br_path.specs.Text.{is_text}
 use Rattle.kc_text.specs.declared.part.Part.{Part}
 use Rattle.kc_text.specs.declared.part.Part.TheVariants.{Word as WordPart, Quoted as QuotedPart}
 use Rattle.kc_expr.specs.Read.{expression, given}
-use Rattle.kc_expr.specs.declared.expr.Kind.{Kind}
-use Rattle.kc_expr.specs.declared.expr.Kind.TheVariants.{Bool as BoolKind, Text as TextKind, Int as IntKind}
+use Rattle.kc_values.specs.declared.kind.Kind.{Kind}
+use Rattle.kc_values.specs.declared.kind.Kind.TheVariants.{Bool as BoolKind, Text as TextKind, Int as IntKind}
 use Rattle.kc_expr.specs.declared.expr.Atom.TheVariants.{Word}
 use Rattle.kc_expr.specs.declared.expr.Expr.{Expr, True, Holds}
 use Rattle.kc_rows.specs.Keyword.{keyword}
@@ -23,9 +23,9 @@ alone [] found = Some found
 alone (part ∷ parts) found = None
 
 -- a quoted text
-abbrev pub quoted : List Part → Row → Option Row
-quoted (QuotedPart text ∷ rest) r = alone rest r
-quoted _ r = None
+abbrev pub quoted : {A : Type 0} → List Part → A → Option A
+quoted (QuotedPart text ∷ rest) found = alone rest found
+quoted _ found = None
 
 -- a quoted path
 abbrev pub source : List Part → Option Row

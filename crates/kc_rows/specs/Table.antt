@@ -3,8 +3,8 @@ use Rattle.std.specs.Prelude.{ℕ, ◌≡◌, ◌==◌, true, List, [], ◌∷�
 use Rattle.kc_text.specs.declared.part.Part.{Part}
 use Rattle.kc_text.specs.declared.part.Part.TheVariants.{Word as WordPart, Quoted as QuotedPart}
 use Rattle.kc_expr.specs.Grammar.{IsCondition}
-use Rattle.kc_expr.specs.declared.expr.Kind.{Kind}
-use Rattle.kc_expr.specs.declared.expr.Kind.TheVariants.{Bool as BoolKind, Text as TextKind, Int as IntKind}
+use Rattle.kc_values.specs.declared.kind.Kind.{Kind}
+use Rattle.kc_values.specs.declared.kind.Kind.TheVariants.{Bool as BoolKind, Text as TextKind, Int as IntKind}
 use Rattle.kc_expr.specs.declared.expr.Atom.TheVariants.{Word}
 use Rattle.kc_expr.specs.declared.expr.Expr.{Expr, True, Holds}
 use Rattle.kc_rows.specs.Row.{is_symbol}

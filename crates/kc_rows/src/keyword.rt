@@ -2,10 +2,10 @@
 ghost use Rattle.std.specs.Prelude.{◌≡◌};
 ghost use Rattle.kc_rows.specs.Keyword.{keyword, block_word, type_word, attribute_word};
 
-use kc_text::is_text;
+use br_path::is_text;
 
 /// What a line begins with.
-#[derive(Clone, Copy, Debug, PartialEq, Eq)]
+#[derive(Clone, Copy)]
 pub enum Keyword {
     MainMenu,
     Source,

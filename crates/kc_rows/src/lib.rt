@@ -8,8 +8,6 @@
 mod keyword;
 mod row;
 mod table;
-#[cfg(test)]
-mod tests;
 
 pub use row::{Row, is_symbol, row_of};
 pub use table::lines_are_rows;

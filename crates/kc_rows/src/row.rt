@@ -7,9 +7,10 @@ ghost use Rattle.kc_rows.specs.Row.{row, row_behind, alone, quoted, source, begi
 ghost use Rattle.kc_rows.specs.ShownFront.{front};
 
 use crate::keyword::{Keyword, keyword_of};
-use br_path::{Bytes, Memory};
-use kc_expr::{Atom, Expr, Kind, expression};
-use kc_text::{Part, is_symbol_byte, is_text};
+use br_path::{Bytes, Memory, is_text};
+use kc_expr::{Atom, Expr, expression};
+use kc_text::{Part, is_symbol_byte};
+use kc_values::Kind;
 use std::alloc::Global;
 
 /// A line by itself. A condition that isn't written is True.
@@ -107,11 +108,11 @@ fn alone<T: Drop>(behind: &[Part], found: T) -> Option<T>
 }
 
 // A line that has a quoted text behind its first word.
-fn quoted(rest: &[Part], row: Row) -> Option<Row>
-    ensures { result ≡ quoted rest.now row }
+fn quoted<T: Drop>(rest: &[Part], found: T) -> Option<T>
+    ensures { result ≡ quoted rest.now found }
 {
     match rest.split_first() {
-        Some((Part::Quoted(_), behind)) => alone(behind, row),
+        Some((Part::Quoted(_), behind)) => alone(behind, found),
         _ => None,
     }
 }

@@ -4,7 +4,7 @@ use Rattle.std.specs.List.{list_any}
 use Rattle.std.specs.Option.{option_map_or}
 use Rattle.std.specs.Borrow.{Bor}
 use Rattle.std.proofs.lemmas.Bool.{cases_Bool, or_left, or_right, false≢true, true≢false}
-use Rattle.kc_text.specs.Lines.{is_text}
+use Rattle.br_path.specs.Text.{is_text}
 use Rattle.kc_menu.specs.Menu.{Declared, IsMenu}
 use Rattle.kc_menu.specs.declared.menu.KcEntry.{KcEntry}
 use Rattle.kc_equations.specs.Behind.{behind}

@@ -2,10 +2,9 @@
 use Rattle.std.proofs.Common.{ℕ, ◌+◌, ◌≡◌, ◌<◌, ◌↔◌, true, false, cond, ◌||◌, List, [], ◌∷◌, ◌++◌, length, take, get_or, Contains, Some, None, is_some, refl, sym, ap, subst, ◌∙◌, inl, inr, ⊎_elim, arith}
 use Rattle.std.proofs.lemmas.Bool.{cases_Bool, cases_lt, or_left, or_right, false≢true}
 use Rattle.std.proofs.lemmas.List.{get_or_default}
-use Rattle.kc_text.specs.Lines.{is_text}
-use Rattle.kc_expr.specs.Values.{Table, IsFit}
-use Rattle.kc_expr.specs.Values.{find as valued}
-use Rattle.kc_expr.specs.declared.values.Valued.{Valued}
+use Rattle.br_path.specs.Text.{is_text}
+use Rattle.kc_values.specs.Values.{Table, IsFit, find as valued}
+use Rattle.kc_values.specs.declared.values.Valued.{Valued}
 use Rattle.cycle_walks.specs.Order.{IsOrder}
 use Rattle.cycle_walks.proofs.Members.{Contains-take, place_in_take}
 use Rattle.kc_menu.specs.Menu.{Declared}

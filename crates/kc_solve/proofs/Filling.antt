@@ -3,10 +3,9 @@ use Rattle.std.proofs.Common.{ℕ, ◌≡◌, Bool, true, false, cond, ◌||◌,
 use Rattle.std.specs.List.{list_any}
 use Rattle.std.proofs.lemmas.Bool.{cases_Bool, or_left, or_right, true≢false, and_parts}
 use Rattle.std.proofs.lemmas.List.{map-append}
-use Rattle.kc_text.specs.Lines.{is_text}
-use Rattle.kc_expr.specs.Values.{Table, IsFit}
-use Rattle.kc_expr.specs.Values.{find as valued}
-use Rattle.kc_expr.specs.declared.values.Valued.{Valued}
+use Rattle.br_path.specs.Text.{is_text}
+use Rattle.kc_values.specs.Values.{Table, IsFit, find as valued}
+use Rattle.kc_values.specs.declared.values.Valued.{Valued}
 use Rattle.kc_menu.specs.Menu.{Declared}
 use Rattle.kc_menu.specs.declared.menu.KcEntry.{KcEntry}
 use Rattle.kc_menu.specs.declared.wishes.Wish.{Wish}

@@ -5,8 +5,7 @@ use Rattle.std.specs.List.{list_any}
 use Rattle.std.specs.Option.{option_map_or}
 use Rattle.std.proofs.lemmas.Bool.{cases_Bool, cases_eq, cases_lt, or_right}
 use Rattle.std.proofs.lemmas.List.{get_or-set_same, get_or-set_other, get_or-replicate, get_or_past, length-replicate, length-set, map-set, get_or-map}
-use Rattle.kc_expr.specs.Values.{Table}
-use Rattle.kc_expr.specs.Values.{find as valued}
+use Rattle.kc_values.specs.Values.{Table, find as valued}
 use Rattle.kc_menu.specs.Menu.{Declared}
 use Rattle.kc_menu.specs.declared.wishes.Wish.{Wish}
 use Rattle.kc_equations.specs.Equation.{entries_of, selects_of, choice_at, taken_at}

@@ -12,5 +12,4 @@ pub mod Sequences
 pub mod Solving
 pub mod Steps
 pub mod SymbolSets
-pub mod TestMenus
 pub mod WordLaws

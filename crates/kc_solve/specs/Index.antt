@@ -1,7 +1,7 @@
 -- What a menu and wishes say of each symbol and each choice.
 use Rattle.std.specs.Prelude.{ℕ, ◌≡◌, ◌<◌, List, Option, map, flat_map, length}
 use Rattle.std.specs.List.{list_any, slice_get}
-use Rattle.kc_text.specs.Lines.{is_text}
+use Rattle.br_path.specs.Text.{is_text}
 use Rattle.kc_menu.specs.Menu.{Declared, IsMenu}
 use Rattle.kc_menu.specs.declared.menu.KcEntry.{KcEntry}
 use Rattle.kc_menu.specs.declared.menu.SymbolIf.{SymbolIf}

@@ -1,6 +1,6 @@
 -- The members that choices take, as far as they are found.
 use Rattle.std.specs.Prelude.{ℕ, ◌≡◌, List, length, Option, Some, None, option_and_then, slice_get, slice_index_or, slice_set}
-use Rattle.kc_expr.specs.Values.{Table}
+use Rattle.kc_values.specs.Values.{Table}
 use Rattle.kc_menu.specs.Menu.{Declared}
 use Rattle.kc_menu.specs.declared.menu.KcEntry.{KcEntry}
 use Rattle.kc_menu.specs.declared.wishes.Wish.{Wish}

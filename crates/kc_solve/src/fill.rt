@@ -2,9 +2,8 @@
 ghost use Rattle.std.specs.Prelude.{ℕ, List, ◌≡◌, ◌<◌, Some, None, IfOk, OnOk, length};
 ghost use Rattle.cycle_walks.specs.Order.{IsOrder};
 ghost use Rattle.kc_equations.specs.Solution.{IsSolution};
-ghost use Rattle.kc_expr.specs.Values.{IsFit};
-ghost use Rattle.kc_expr.specs.Values.{find as valued};
-ghost use Rattle.kc_expr.specs.declared.values.Valued.{Valued as Given};
+ghost use Rattle.kc_values.specs.Values.{IsFit, find as valued};
+ghost use Rattle.kc_values.specs.declared.values.Valued.{Valued as Given};
 ghost use Rattle.kc_solve.specs.Filled.{IsFilled, names_within, with_value, put_valued, in_order};
 ghost use Rattle.kc_solve.specs.Index.{IsIndex};
 ghost use Rattle.kc_solve.specs.Symbols.{symbol_at};
@@ -14,8 +13,8 @@ use crate::index::Index;
 use crate::members::Chosen;
 use crate::texts::valued;
 use br_path::{Bytes, Memory, Numbers};
-use kc_expr::{Valued, Values};
 use kc_menu::KcEntry;
+use kc_values::{Valued, Values};
 use std::alloc::Global;
 
 /// The solution, by an order of the symbols in which each stands behind those that its equation names.
@@ -34,8 +33,8 @@ fn fill(alloc: Global, index: &Index, order: &Numbers) -> Result<Values, Memory>
     requires order { IsOrder (length index.now.symbols) (names_within index.now.menu.now index.now.symbols) order.now }
     ensures { IfOk result (IsFilled index.now.menu.now index.now.wishes.now) }
 {
-    let mut values = Values::new(alloc);
     let mut chosen = Chosen::new(alloc, index.menu.choices().len())?;
+    let mut values = Values::new(alloc);
     for place in &order.items {
         add_value(alloc, index, &mut values, &mut chosen, *place)?;
     }

@@ -1,7 +1,5 @@
 //! Symbols that are y while their dependencies don't hold.
 ghost use Rattle.std.specs.Prelude.{◌≡◌, ◌<◌, IfOk, filter, length};
-ghost use Rattle.std.specs.Option.{option_copied};
-ghost use Rattle.kc_expr.specs.Holds.{is_yes};
 ghost use Rattle.kc_equations.specs.Behind.{behind, selects_behind};
 ghost use Rattle.kc_equations.specs.Equation.{is_effective, is_selected};
 ghost use Rattle.kc_equations.specs.Faults.{depends_hold, is_forced};
@@ -10,9 +8,8 @@ ghost use Rattle.kc_solve.specs.Symbols.{symbol_at};
 
 use crate::index::Index;
 use br_path::{Bytes, Memory, Names};
-use kc_expr::{Kind, Valued, Values};
 use kc_menu::{KcEntry, SymbolIf};
-use kc_text::is_text;
+use kc_values::Values;
 use std::alloc::Global;
 
 /// The symbols that are y by an effective select while their dependencies don't hold, by name.
@@ -35,19 +32,9 @@ fn is_forced(index: &Index, values: &Values, place: u32) -> bool
     requires place { place < length index.now.symbols }
     ensures { result ≡ is_forced index.now.menu.now values.now (symbol_at index.now.symbols place) }
 {
-    is_yes(values.find(index.symbols.symbol(place)))
+    values.is_yes(index.symbols.symbol(place))
         && is_selected(values, index.selects(place))
         && !depends_hold(values, index.own(place))
-}
-
-/// Whether it is a bool that is y.
-fn is_yes(found: Option<&Valued>) -> bool
-    ensures { result ≡ is_yes (option_copied found.entry) }
-{
-    match found {
-        Some(valued) => valued.kind == Kind::Bool && is_text(valued.text.as_slice(), b"y"),
-        None => false,
-    }
 }
 
 /// Whether one of the selects is effective.
@@ -65,7 +52,7 @@ fn is_selected(values: &Values, selects: &[(&KcEntry, &SymbolIf)]) -> bool
 fn is_effective(values: &Values, entry: &KcEntry, select: &SymbolIf) -> bool
     ensures { result ≡ is_effective values.now entry.now select.now }
 {
-    is_yes(values.find(entry.symbol.as_slice()))
+    values.is_yes(entry.symbol.as_slice())
         && entry.depends.all_hold(values)
         && select.condition.holds(values)
 }

@@ -7,7 +7,7 @@ use std::alloc::Global;
 use std::marker::Model;
 
 /// Items in their order.
-#[derive(Debug, Drop)]
+#[derive(Drop)]
 struct Group<T> {
     items: Vec<T>,
 }
@@ -21,7 +21,7 @@ impl<T> Model for Group<T> {
 }
 
 /// Items in rows, which are numbered from 0.
-#[derive(Debug, Drop)]
+#[derive(Drop)]
 pub struct Groups<T> {
     rows: Vec<Group<T>>,
 }

@@ -13,7 +13,7 @@ use kc_menu::{KcChoice, KcEntry, Menu, SymbolIf, Wish, WishValue, Wishes};
 use std::alloc::Global;
 
 /// A menu and wishes, with what they say of each symbol and each choice.
-#[derive(Debug, Drop)]
+#[derive(Drop)]
 pub struct Index<'a> {
     pub menu: &'a Menu,
     pub wishes: &'a Wishes,

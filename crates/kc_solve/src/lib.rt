@@ -16,8 +16,6 @@ mod selected;
 mod sequence;
 mod solver;
 mod symbols;
-#[cfg(test)]
-mod tests;
 mod texts;
 mod words;
 

@@ -7,12 +7,12 @@ ghost use Rattle.kc_solve.specs.Taken.{AreTaken};
 use crate::index::Index;
 use br_path::Memory;
 use kc_equations::taken;
-use kc_expr::Values;
+use kc_values::Values;
 use std::alloc::Global;
 use std::marker::Model;
 
 /// The member that each choice takes, by the place of the choice, as far as it is found.
-#[derive(Debug, Drop)]
+#[derive(Drop)]
 pub struct Chosen<'a> {
     found: Vec<Option<Option<&'a [u8]>>>,
 }

@@ -127,11 +127,20 @@ fn words_of_choices<'a>(alloc: Global, index: &Index<'a>) -> Result<Vec<Words<'a
     }
     let mut chosen = Vec::with_capacity(alloc, count)?;
     for place in 0..count as u32 {
-        let mut words = Words::new(alloc);
-        add_choice(&mut words, index, place)?;
-        chosen.push(words)?;
+        chosen.push(words_of_choice(alloc, index, place)?)?;
     }
     Ok(chosen)
+}
+
+/// The words of the choice at a place.
+fn words_of_choice<'a>(alloc: Global, index: &Index<'a>, place: u32) -> Result<Words<'a>, Memory>
+    requires index { IsIndex index.now }
+    requires place { place < length index.now.menu.now.choices }
+    ensures { IfOk result (λ words. words ≡ choice_words_at index.now.menu.now place) }
+{
+    let mut words = Words::new(alloc);
+    add_choice(&mut words, index, place)?;
+    Ok(words)
 }
 
 fn add_entries<'a>(words: &mut Words<'a>, own: &[&'a KcEntry]) -> Result<(), Memory>

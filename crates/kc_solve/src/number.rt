@@ -4,7 +4,7 @@ ghost use Rattle.kc_equations.specs.Faults.{behind_sign, are_digits, is_bad, is_
 ghost use Rattle.kc_solve.specs.Index.{IsIndex};
 
 use crate::index::Index;
-use kc_expr::{Kind, Valued, Values};
+use kc_values::{Kind, Valued, Values};
 
 /// The least int whose text isn't empty, and isn't 1 to 18 digits, perhaps behind a `-`.
 #[tactic(auto, using(crate::proofs::Steps::finding))]

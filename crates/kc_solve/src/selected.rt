@@ -3,13 +3,13 @@ ghost use Rattle.std.specs.Prelude.{◌≡◌, ◌<◌, find, is_some, length, n
 ghost use Rattle.std.specs.List.{list_any};
 ghost use Rattle.kc_equations.specs.Behind.{behind};
 ghost use Rattle.kc_equations.specs.Faults.{is_select_named, is_named_member, is_named_value};
-ghost use Rattle.kc_expr.specs.Holds.{is_bool};
+ghost use Rattle.kc_values.specs.Values.{is_bool};
 ghost use Rattle.kc_solve.specs.Index.{IsIndex};
 ghost use Rattle.kc_solve.specs.Symbols.{symbol_at};
 
 use crate::index::Index;
-use kc_expr::Kind;
 use kc_menu::KcEntry;
+use kc_values::Kind;
 
 /// The least member of a choice that a select names.
 #[tactic(auto, using(crate::proofs::Steps::finding))]

@@ -11,8 +11,8 @@ use crate::selected::{least_named_member, least_named_value};
 use crate::sequence::order_of_names;
 use br_path::{Bytes, Names};
 use kc_equations::SolveFault;
-use kc_expr::Values;
 use kc_menu::{Menu, Wishes};
+use kc_values::Values;
 use std::alloc::Global;
 
 /// A configuration that is solved.

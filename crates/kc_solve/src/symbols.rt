@@ -1,7 +1,7 @@
 //! The declared symbols, each numbered by its place by bytes.
 ghost use Rattle.std.specs.Prelude.{ℕ, List, ◌≡◌, ◌<◌, IfOk, length, map};
 ghost use Rattle.std.specs.List.{list_any};
-ghost use Rattle.kc_text.specs.Lines.{is_text};
+ghost use Rattle.br_path.specs.Text.{is_text};
 ghost use Rattle.kc_equations.specs.Names.{is_declared};
 ghost use Rattle.kc_equations.specs.Solution.{symbols_of};
 ghost use Rattle.kc_solve.specs.Symbols.{AreSymbols, symbol_at, place_of};
@@ -15,9 +15,16 @@ use std::marker::Model;
 /// Symbols that rise by bytes, each numbered by its place, from 0. So the least number is that of the least symbol.
 ///
 /// A look-up takes constant time.
-#[derive(Debug, Drop)]
 pub struct Symbols {
     set: IndexSet<Vec<u8>>,
+}
+
+// A proof then has one call at each place that lets the symbols go, and not one for each part of the set.
+impl Drop for Symbols {
+    fn drop(self) {
+        let Symbols { set } = self;
+        drop(set);
+    }
 }
 
 impl Model for Symbols {

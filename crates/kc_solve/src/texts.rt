@@ -8,10 +8,9 @@ ghost use Rattle.kc_solve.specs.Taken.{AreTaken, choice_place, with_taken};
 
 use crate::index::Index;
 use crate::members::Chosen;
-use br_path::{Bytes, Memory};
+use br_path::{Bytes, Memory, is_text};
 use kc_equations::text_by_kind;
-use kc_expr::{Kind, Valued, Values};
-use kc_text::is_text;
+use kc_values::{Kind, Valued, Values};
 use std::alloc::Global;
 
 /// The type of the symbol at a place, and the text that its equation gives at some values. It keeps the member that the

@@ -10,7 +10,7 @@ use std::alloc::Global;
 use std::marker::Model;
 
 /// Words in the order in which they were gathered, as often as they were.
-#[derive(Debug, Drop)]
+#[derive(Drop)]
 pub struct Words<'a> {
     items: Vec<&'a [u8]>,
 }

@@ -6,9 +6,9 @@ use Rattle.std.proofs.lemmas.List.Elements.{All-nil, All-cons, All-head, All-tai
 use Rattle.std.proofs.lemmas.Bool.{eqb-true}
 use Rattle.indexmap.specs.IndexMap.{insert_entry}
 use Rattle.br_path.specs.Path.{Names}
-use Rattle.kc_text.specs.Lines.{is_text}
-use Rattle.kc_expr.specs.declared.expr.Kind.{Kind}
-use Rattle.kc_expr.specs.declared.expr.Kind.TheVariants as kind
+use Rattle.br_path.specs.Text.{is_text}
+use Rattle.kc_values.specs.declared.kind.Kind.{Kind}
+use Rattle.kc_values.specs.declared.kind.Kind.TheVariants as kind
 use Rattle.kc_expr.specs.declared.expr.Expr.{Expr}
 use Rattle.kc_menu.specs.declared.menu.KcChoice.{KcChoice}
 use Rattle.kc_rows.specs.declared.row.Row.{Row}

@@ -6,7 +6,7 @@ use Rattle.std.specs.Cmp.{IsEquivalence}
 use Rattle.std.specs.Cmp.Lexicographic.{nat_list_eq_equiv}
 use Rattle.std.specs.HashMap.Eq.{lookup_congr}
 use Rattle.indexmap.specs.IndexMap.{insert_entry}
-use Rattle.kc_text.specs.Lines.{is_text}
+use Rattle.br_path.specs.Text.{is_text}
 use Rattle.kc_syntax.specs.declared.reader.Known.{Known}
 use Rattle.kc_syntax.specs.State.{Symbols, known}
 use Rattle.kc_syntax.specs.Sound.{IsPlaced, IsFitMember}

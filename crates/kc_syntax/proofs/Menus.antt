@@ -4,8 +4,8 @@ use Rattle.std.specs.Prelude.{All, Contains, IfOk, IfErr, ◌&&◌, ◌||◌, if
 use Rattle.std.specs.Option.{option_map, option_map_or, option_and_then}
 use Rattle.std.proofs.lemmas.List.Elements.{All-nil, All-cons, All-head, All-tail, All-contains}
 use Rattle.br_path.specs.Files.{FileMap}
-use Rattle.kc_expr.specs.declared.expr.Kind.{Kind}
-use Rattle.kc_expr.specs.declared.expr.Kind.TheVariants as kind
+use Rattle.kc_values.specs.declared.kind.Kind.{Kind}
+use Rattle.kc_values.specs.declared.kind.Kind.TheVariants as kind
 use Rattle.kc_expr.specs.declared.expr.Atom.{Atom}
 use Rattle.kc_expr.specs.declared.expr.Expr.{Expr, Holds}
 use Rattle.kc_menu.specs.Menu.{Declared, IsMenu, IsAtomDefault}

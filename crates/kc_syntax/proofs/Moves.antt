@@ -3,8 +3,8 @@ use Rattle.std.proofs.Common.{◌≡◌, ℕ, Bool, true, false, List, [], ◌�
 use Rattle.std.specs.Prelude.{nat_lt, not, ◌&&◌, if◌then◌else◌, length}
 use Rattle.std.specs.Option.{option_map_or, is_some}
 use Rattle.br_path.specs.Path.{Names}
-use Rattle.kc_expr.specs.declared.expr.Kind.{Kind}
-use Rattle.kc_expr.specs.declared.expr.Kind.TheVariants as kind
+use Rattle.kc_values.specs.declared.kind.Kind.{Kind}
+use Rattle.kc_values.specs.declared.kind.Kind.TheVariants as kind
 use Rattle.kc_expr.specs.declared.expr.Expr.{Expr}
 use Rattle.kc_rows.specs.declared.row.Row.{Row}
 use Rattle.kc_rows.specs.declared.row.Row.TheVariants.{MainMenu, Source, Menu, EndMenu, If, EndIf, Choice, EndChoice, Comment, Config, Typed, Prompt, DefBool, Default, Depends, Select, Help, DashedHelp}

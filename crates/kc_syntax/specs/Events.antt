@@ -9,7 +9,8 @@ use Rattle.br_path.specs.PathFault.{path_fault}
 use Rattle.br_path.specs.Files.{FileMap}
 use Rattle.kc_text.specs.declared.part.Part.{Part}
 use Rattle.kc_text.specs.declared.part.Line.{Line}
-use Rattle.kc_text.specs.Lines.{lines, is_text}
+use Rattle.kc_text.specs.Lines.{lines}
+use Rattle.br_path.specs.Text.{is_text}
 use Rattle.kc_rows.specs.Row.{row}
 use Rattle.kc_rows.specs.declared.row.Row.{Row}
 use Rattle.kc_rows.specs.declared.row.Row.TheVariants.{Source}

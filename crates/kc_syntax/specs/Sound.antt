@@ -1,8 +1,8 @@
 -- What holds of all that is read.
 use Rattle.std.specs.Prelude.{ℕ, ◌≡◌, ◌<◌, List, length, All, Option, Some}
 use Rattle.std.specs.Option.{option_map}
-use Rattle.kc_expr.specs.declared.expr.Kind.{Kind}
-use Rattle.kc_expr.specs.declared.expr.Kind.TheVariants as kind
+use Rattle.kc_values.specs.declared.kind.Kind.{Kind}
+use Rattle.kc_values.specs.declared.kind.Kind.TheVariants as kind
 use Rattle.kc_syntax.specs.declared.reader.Known.{Known}
 use Rattle.kc_syntax.specs.State.{State, Symbols, known}
 

@@ -3,7 +3,7 @@ use Rattle.std.specs.Prelude.{ℕ, Bool, true, false, not, nat_lt, List, [], ◌
 use Rattle.std.specs.Option.{is_some}
 use Rattle.std.specs.Map.{lookup}
 use Rattle.indexmap.specs.IndexMap.{insert_entry}
-use Rattle.kc_text.specs.Lines.{is_text}
+use Rattle.br_path.specs.Text.{is_text}
 use Rattle.kc_expr.specs.declared.expr.Expr.{Expr}
 use Rattle.kc_menu.specs.declared.menu.KcChoice.{KcChoice}
 use Rattle.kc_menu.specs.declared.menu.SymbolIf.{SymbolIf}

@@ -2,9 +2,9 @@
 use Rattle.std.specs.Prelude.{ℕ, ◌+◌, ◌-◌, slice_get, Bool, true, false, ◌&&◌, ◌==◌, not, nat_lt, List, [], ◌∷◌, ◌++◌, length, Option, Some, None, Result, Ok, Err, codes, if◌then◌else◌}
 use Rattle.std.specs.Option.{option_map, option_map_or, is_some}
 use Rattle.br_path.specs.Path.{Names}
-use Rattle.kc_text.specs.Lines.{is_text}
-use Rattle.kc_expr.specs.declared.expr.Kind.{Kind}
-use Rattle.kc_expr.specs.declared.expr.Kind.TheVariants as kind
+use Rattle.br_path.specs.Text.{is_text}
+use Rattle.kc_values.specs.declared.kind.Kind.{Kind}
+use Rattle.kc_values.specs.declared.kind.Kind.TheVariants as kind
 use Rattle.kc_expr.specs.declared.expr.Atom.{Atom}
 use Rattle.kc_expr.specs.declared.expr.Atom.TheVariants.{Word}
 use Rattle.kc_expr.specs.declared.expr.Expr.{Expr, Holds}

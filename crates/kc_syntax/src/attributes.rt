@@ -1,5 +1,6 @@
 //! Attribute lines, by what they belong to.
 ghost use Rattle.std.specs.Prelude.{◌≡◌, OnOk};
+ghost use Rattle.std.specs.Option.{option_copied};
 ghost use Rattle.kc_syntax.specs.Step.{is_m, symbol_of};
 
 use crate::block::Owner;
@@ -8,11 +9,11 @@ use crate::entries::same_kind;
 use crate::error::{KcError, KcKind, fault};
 use crate::reader::Reader;
 use crate::shared::SharedPath;
-use br_path::{Bytes, Memory};
-use kc_expr::{Atom, Expr, Kind};
+use br_path::{Bytes, Memory, is_text};
+use kc_expr::{Atom, Expr};
 use kc_menu::SymbolIf;
 use kc_rows::is_symbol;
-use kc_text::is_text;
+use kc_values::Kind;
 
 impl Reader {
     ghost use Rattle.kc_syntax.specs.Shown.{shown, Follows};
@@ -154,7 +155,7 @@ impl Reader {
     {
         match self.owner {
             Owner::Entry => self.entry_default(value, single, condition, file, line),
-            Owner::Choice => self.choice_default(value, single, condition, file, line),
+            Owner::Choice => self.choice_default(&value, single, condition, file, line),
             Owner::Menu | Owner::Comment | Owner::Nobody => Err(fault(file, line, KcKind::BadLine)),
         }
     }
@@ -177,16 +178,19 @@ impl Reader {
 
     fn choice_default(
         &mut self,
-        value: Expr,
+        value: &Expr,
         single: bool,
         condition: Expr,
         file: &SharedPath,
         line: u32,
     ) -> Result<(), KcError>
-        ensures { Follows (on.choice_default (shown self.old) value single condition file.now line) result (shown self.new) }
+        ensures { Follows (on.choice_default (shown self.old) value.now single condition file.now line) result (shown self.new) }
     {
         match symbol_of(value, single) {
-            Some(symbol) => Ok(self.put_choice_default(SymbolIf { symbol, condition })?),
+            Some(symbol) => {
+                let symbol = symbol.copy()?;
+                Ok(self.put_choice_default(SymbolIf { symbol, condition })?)
+            }
             None => Err(fault(file, line, KcKind::BadLine)),
         }
     }
@@ -270,17 +274,11 @@ fn is_m(value: &Expr) -> bool
 }
 
 // The symbol that a value is which has no brackets round it.
-fn symbol_of(value: Expr, single: bool) -> Option<Bytes>
-    ensures { result ≡ symbol_of value single }
+fn symbol_of(value: &Expr, single: bool) -> Option<&Bytes>
+    ensures { option_copied result ≡ symbol_of value.now single }
 {
     match value {
-        Expr::Holds(Atom::Word(word)) => {
-            if single && is_symbol(word.as_slice()) {
-                Some(word)
-            } else {
-                None
-            }
-        }
+        Expr::Holds(Atom::Word(word)) if single && is_symbol(word.as_slice()) => Some(word),
         _ => None,
     }
 }

@@ -3,7 +3,7 @@
 use kc_menu::Exprs;
 
 /// What a block is. A file that is read counts as one, since blocks are closed in their files.
-#[derive(Clone, Copy, Debug, PartialEq, Eq)]
+#[derive(Clone, Copy, PartialEq, Eq)]
 pub(crate) enum Block {
     Menu,
     If,
@@ -12,7 +12,7 @@ pub(crate) enum Block {
 }
 
 /// A block that is open.
-#[derive(Debug, Drop)]
+#[derive(Drop)]
 pub(crate) struct Open {
     pub(crate) block: Block,
     /// Its first line.
@@ -24,7 +24,7 @@ pub(crate) struct Open {
 }
 
 /// What the attribute lines belong to that may follow.
-#[derive(Clone, Copy, Debug, PartialEq, Eq)]
+#[derive(Clone, Copy)]
 pub(crate) enum Owner {
     Nobody,
     /// The innermost open block, a menu.

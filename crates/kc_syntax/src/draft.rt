@@ -6,7 +6,7 @@ use kc_menu::{Exprs, SymbolIfs};
 use std::marker::Model;
 
 /// A default with the place of its line. `single` says that its value is one part of the line, so has no brackets round it.
-#[derive(Debug, Drop)]
+#[derive(Drop)]
 pub(crate) struct DraftDefault {
     pub(crate) value: Expr,
     pub(crate) single: bool,
@@ -16,7 +16,7 @@ pub(crate) struct DraftDefault {
 }
 
 /// Defaults in their order.
-#[derive(Debug, Drop)]
+#[derive(Drop)]
 pub(crate) struct DraftDefaults {
     pub(crate) items: Vec<DraftDefault>,
 }
@@ -35,7 +35,7 @@ impl Model for DraftDefaults {
 }
 
 /// An entry with the place of its first line.
-#[derive(Debug, Drop)]
+#[derive(Drop)]
 pub(crate) struct Draft {
     pub(crate) symbol: Bytes,
     pub(crate) file: SharedPath,

@@ -9,8 +9,8 @@ use crate::error::{KcError, KcKind, fault};
 use crate::reader::{Known, Reader};
 use crate::shared::SharedPath;
 use br_path::{Bytes, Memory};
-use kc_expr::Kind;
 use kc_menu::SymbolIfs;
+use kc_values::Kind;
 
 /// How many entries there may be.
 const ENTRY_LIMIT: usize = 65_536;

@@ -9,8 +9,9 @@ use crate::error::{KcError, KcKind, fault};
 use crate::reader::{Known, Reader};
 use br_path::Bytes;
 use indexmap::IndexMap;
-use kc_expr::{Expr, Kind};
+use kc_expr::Expr;
 use kc_menu::{Choices, Entries, KcDefault, KcDefaults, KcEntry, Menu};
+use kc_values::Kind;
 use std::alloc::Global;
 
 impl Reader {

@@ -24,13 +24,12 @@ mod read;
 mod reader;
 mod rows;
 mod shared;
-#[cfg(test)]
-mod tests;
 
 pub use error::{KcError, KcFault, KcKind};
-pub use kc_expr::{Atom, Expr, Kind, Valued, Values};
+pub use kc_expr::{Atom, Expr};
 pub use kc_menu::{
     Choices, Entries, Exprs, KcChoice, KcDefault, KcDefaults, KcEntry, Menu, SymbolIf, SymbolIfs,
     Wish, WishValue, Wishes,
 };
+pub use kc_values::{Kind, Valued, Values};
 pub use read::{files_are_read, parse};

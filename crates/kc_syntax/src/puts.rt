@@ -17,9 +17,8 @@ impl Reader {
     pub(crate) fn put_prompt(&mut self, condition: Expr) -> Result<(), Memory>
         ensures { OnOk result (shown self.new ≡ state.with_prompt condition (shown self.old)) }
     {
-        if let Some(mut entry) = self.entries.pop() {
+        if let Some(entry) = self.entries.last_mut() {
             entry.prompts.items.push(condition)?;
-            self.entries.push(entry)?;
         }
         Ok(())
     }
@@ -28,9 +27,8 @@ impl Reader {
     pub(crate) fn put_default(&mut self, given: DraftDefault) -> Result<(), Memory>
         ensures { OnOk result (shown self.new ≡ state.with_default given (shown self.old)) }
     {
-        if let Some(mut entry) = self.entries.pop() {
+        if let Some(entry) = self.entries.last_mut() {
             entry.defaults.items.push(given)?;
-            self.entries.push(entry)?;
         }
         Ok(())
     }
@@ -39,9 +37,8 @@ impl Reader {
     pub(crate) fn put_select(&mut self, select: SymbolIf) -> Result<(), Memory>
         ensures { OnOk result (shown self.new ≡ state.with_select select (shown self.old)) }
     {
-        if let Some(mut entry) = self.entries.pop() {
+        if let Some(entry) = self.entries.last_mut() {
             entry.selects.items.push(select)?;
-            self.entries.push(entry)?;
         }
         Ok(())
     }
@@ -50,9 +47,8 @@ impl Reader {
     pub(crate) fn put_depends(&mut self, condition: Expr) -> Result<(), Memory>
         ensures { OnOk result (shown self.new ≡ state.with_depends condition (shown self.old)) }
     {
-        if let Some(mut entry) = self.entries.pop() {
+        if let Some(entry) = self.entries.last_mut() {
             entry.depends.items.push(condition)?;
-            self.entries.push(entry)?;
         }
         Ok(())
     }
@@ -61,9 +57,8 @@ impl Reader {
     pub(crate) fn put_choice_prompt(&mut self, condition: Expr) -> Result<(), Memory>
         ensures { OnOk result (shown self.new ≡ state.with_choice_prompt condition (shown self.old)) }
     {
-        if let Some(mut choice) = self.choices.pop() {
+        if let Some(choice) = self.choices.last_mut() {
             choice.prompts.items.push(condition)?;
-            self.choices.push(choice)?;
         }
         Ok(())
     }
@@ -72,9 +67,8 @@ impl Reader {
     pub(crate) fn put_choice_default(&mut self, default: SymbolIf) -> Result<(), Memory>
         ensures { OnOk result (shown self.new ≡ state.with_choice_default default (shown self.old)) }
     {
-        if let Some(mut choice) = self.choices.pop() {
+        if let Some(choice) = self.choices.last_mut() {
             choice.defaults.items.push(default)?;
-            self.choices.push(choice)?;
         }
         Ok(())
     }
@@ -83,9 +77,8 @@ impl Reader {
     pub(crate) fn put_choice_depends(&mut self, condition: Expr) -> Result<(), Memory>
         ensures { OnOk result (shown self.new ≡ state.with_choice_depends condition (shown self.old)) }
     {
-        if let Some(mut choice) = self.choices.pop() {
+        if let Some(choice) = self.choices.last_mut() {
             choice.depends.items.push(condition)?;
-            self.choices.push(choice)?;
         }
         Ok(())
     }
@@ -94,9 +87,8 @@ impl Reader {
     pub(crate) fn put_condition(&mut self, condition: Expr) -> Result<(), Memory>
         ensures { OnOk result (shown self.new ≡ state.with_condition condition (shown self.old)) }
     {
-        if let Some(mut inner) = self.blocks.pop() {
+        if let Some(inner) = self.blocks.last_mut() {
             inner.conditions.items.push(condition)?;
-            self.blocks.push(inner)?;
         }
         Ok(())
     }

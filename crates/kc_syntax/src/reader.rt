@@ -5,12 +5,12 @@ use crate::block::{Open, Owner};
 use crate::draft::Draft;
 use br_path::Bytes;
 use indexmap::IndexMap;
-use kc_expr::Kind;
 use kc_menu::KcChoice;
+use kc_values::Kind;
 use std::alloc::Global;
 
 /// What is known of a symbol: its type, where a line gave it one, and the choice that all its entries stand in.
-#[derive(Clone, Copy, Debug, PartialEq, Eq)]
+#[derive(Clone, Copy)]
 pub(crate) struct Known {
     pub(crate) kind: Option<Kind>,
     pub(crate) choice: Option<u32>,

@@ -7,7 +7,7 @@ use std::marker::Model;
 use std::rc::Rc;
 
 /// The path of a file, which all that is read in it owns together.
-#[derive(Debug, Drop)]
+#[derive(Drop)]
 pub(crate) struct SharedPath {
     path: Rc<Path>,
 }

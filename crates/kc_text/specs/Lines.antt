@@ -1,4 +1,5 @@
 -- The lines of a text: a step for each raw line, from a start, and an end.
+use Rattle.br_path.specs.Text.{is_text}
 use Rattle.std.specs.Prelude.{ℕ, ◌+◌, ◌-◌, ◌*◌, ◌/◌, Bool, false, ◌||◌, ◌&&◌, ◌==◌, nat_eq, nat_le, List, [], ◌∷◌, ◌++◌, length, take, Option, Some, None, if◌then◌else◌, codes}
 use Rattle.std.specs.List.{slice_split, slice_get, list_all}
 use Rattle.std.specs.Cmp.Lexicographic.{pointwise}
@@ -20,9 +21,6 @@ pub record Gathered : Type 0 where
 -- the pieces between the newlines; behind the last newline there may stand nothing
 unfoldable pub raw_lines : List ℕ → List (List ℕ)
 raw_lines text = slice_split (λ byte. byte == 10) text
-
-abbrev pub is_text : List ℕ → List ℕ → Bool
-is_text text other = pointwise nat_eq text other
 
 unfoldable pub is_blank_line : List ℕ → Bool
 is_blank_line raw = list_all byte_is.blank raw

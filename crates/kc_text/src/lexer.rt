@@ -18,7 +18,7 @@ const PARTS_ROOM: usize = 3;
 const TEXT_ROOM: usize = 40;
 
 /// What the bytes before a place have begun.
-#[derive(Clone, Copy, Debug)]
+#[derive(Clone, Copy)]
 pub enum Mode {
     /// Nothing.
     Between,

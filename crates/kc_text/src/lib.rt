@@ -14,10 +14,8 @@ mod bytes;
 mod lexer;
 mod lines;
 mod part;
-#[cfg(test)]
-mod tests;
 
 pub use bytes::{is_blank, is_symbol_byte, is_word_byte};
 pub use lexer::{lines_have_parts, parts_of};
-pub use lines::{is_text, lines_of, texts_have_lines};
+pub use lines::{lines_of, texts_have_lines};
 pub use part::{Line, Part, Parts};

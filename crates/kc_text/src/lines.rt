@@ -1,6 +1,7 @@
 //! From a text to its lines.
 ghost use Rattle.std.specs.Prelude.{◌≡◌, ◌↔◌, ℕ, List, ◌<◌, ◌^◌, ◌≤◌, map, length, IfOk, OnOk};
-ghost use Rattle.kc_text.specs.Lines.{raw_lines, lines, is_blank_line, indent, joins, first_of, join, put_parts, put_line, plain, take_line, finish, help_first, help_inside, help_after, help_behind, help_behind_parts, help_behind_word, is_empty, is_help, is_text};
+ghost use Rattle.kc_text.specs.Lines.{raw_lines, lines, is_blank_line, indent, joins, first_of, join, put_parts, put_line, plain, take_line, finish, help_first, help_inside, help_after, help_behind, help_behind_parts, help_behind_word, is_empty, is_help};
+ghost use Rattle.br_path.specs.Text.{is_text};
 ghost use Rattle.kc_text.specs.ShownLines.{shown};
 ghost use Rattle.kc_text.specs.TextLines.{IsLines};
 ghost use Rattle.kc_text.specs.declared.part.Line.{Line};
@@ -8,11 +9,11 @@ ghost use Rattle.kc_text.specs.declared.part.Line.{Line};
 use crate::bytes::is_blank;
 use crate::lexer::parts_of;
 use crate::part::{Line, Part, Parts};
-use br_path::Memory;
+use br_path::{Memory, is_text};
 use std::alloc::{AllocError, Global};
 
 /// Where a raw line stands to a block of help.
-#[derive(Clone, Copy, Debug)]
+#[derive(Clone, Copy)]
 pub enum Help {
     /// Outside.
     Out,
@@ -38,13 +39,13 @@ pub fn lines_of(alloc: Global, text: &[u8]) -> Result<Vec<Line>, Memory>
     requires { length text.now < 2 ^ 31 }
     ensures { IfOk result (λ v. v.items ≡ lines text.now) }
 {
+    let raws = raw_lines_of(alloc, text)?;
     let mut gathered = Gathered {
         lines: Vec::new(alloc),
         carry: Vec::new(alloc),
         first: 0,
         help: Help::Out,
     };
-    let raws = raw_lines_of(alloc, text)?;
     let mut number: u32 = 0;
     for raw in &raws {
         number += 1;
@@ -263,11 +264,4 @@ fn is_help(word: &[u8]) -> bool
     ensures { result ≡ is_help word.now }
 {
     is_text(word, b"help") || is_text(word, b"---help---")
-}
-
-/// Whether two texts are equal.
-pub fn is_text(text: &[u8], other: &[u8]) -> bool
-    ensures { result ≡ is_text text.now other.now }
-{
-    text == other
 }

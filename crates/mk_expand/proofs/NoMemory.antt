@@ -7,7 +7,7 @@ use Rattle.mk_expand.specs.declared.function.Function.TheVariants.{Subst, Strip,
 use Rattle.mk_expand.specs.declared.scope.Scope.{Scope}
 use Rattle.mk_expand.specs.declared.fault.ExpandFault.{ExpandFault}
 use Rattle.mk_expand.specs.declared.fault.ExpandFault.TheVariants.{BadCall, Unsupported, Memory}
-use Rattle.mk_expand.specs.Words.{is_text}
+use Rattle.br_path.specs.Text.{is_text}
 use Rattle.mk_expand.specs.Call.{refusal}
 use Rattle.mk_expand.specs.Meaning.{Environment}
 use Rattle.mk_expand.specs.Failure.{FailsWith, fails, FailsPiece, costly, stray_end, stray, unclosed, short, deep, within, FailsInside, its_one, long, name_fails, named_fails, strict_fails, test_fails, branch_fails, variable_fails, list_fails, each_fails, FailsNamed, refused, met, too_long, later_fails, FailsAll, arg_fails, arg_refused, later_arg, FailsEach, here, further}

@@ -2,7 +2,7 @@
 use Rattle.std.proofs.Common.{◌≡◌, ℕ, Bool, true, false, cond, List, [], ◌∷◌, map, Some, None, refl, ap, sym, ◌∙◌}
 use Rattle.std.specs.Map.{lookup, set_value}
 use Rattle.mk_expand.specs.declared.vars.Variable.{Variable}
-use Rattle.mk_expand.specs.Words.{is_text}
+use Rattle.br_path.specs.Text.{is_text}
 use Rattle.mk_expand.specs.Vars.{put, with_more, appended}
 use Rattle.indexmap.specs.IndexMap.{insert_entry}
 

@@ -6,7 +6,8 @@ use Rattle.mk_expand.specs.declared.function.Function.TheVariants.{If, Foreach, 
 use Rattle.mk_expand.specs.declared.fault.ExpandFault.{ExpandFault}
 use Rattle.mk_expand.specs.declared.fault.ExpandFault.TheVariants.{BadCall, Unsupported, Memory}
 use Rattle.mk_expand.specs.Bracket.{opening, closing}
-use Rattle.mk_expand.specs.Words.{is_blank, is_text, without_front, trimmed}
+use Rattle.mk_expand.specs.Words.{is_blank, without_front, trimmed}
+use Rattle.br_path.specs.Text.{is_text}
 use Rattle.mk_expand.specs.Lists.{argument}
 use Rattle.mk_expand.specs.Table.{entry, function_of, may_divide}
 

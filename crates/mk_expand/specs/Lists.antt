@@ -6,7 +6,8 @@ use Rattle.std.specs.Cmp.Lexicographic.{slice_cmp}
 use Rattle.std.specs.Ordering.{nat_cmp}
 use Rattle.std.specs.BTreeSet.{insert_key}
 use Rattle.memchr.specs.Find.{occurs_at}
-use Rattle.mk_expand.specs.Words.{is_text, is_filled, words, row}
+use Rattle.mk_expand.specs.Words.{is_filled, words, row}
+use Rattle.br_path.specs.Text.{is_text}
 use Rattle.mk_expand.specs.declared.function.Function.{Function}
 use Rattle.mk_expand.specs.declared.function.Function.TheVariants.{Subst, Strip, AddPrefix, AddSuffix, Filter, FilterOut, PatSubst, Sort, FirstWord, If, Foreach, Call}
 

@@ -3,7 +3,7 @@ use Rattle.std.specs.Prelude.{ℕ, Bool, ◌||◌, ◌==◌, List, [], ◌∷◌
 use Rattle.std.specs.List.{list_any}
 use Rattle.mk_expand.specs.declared.vars.Variable.{Variable}
 use Rattle.mk_expand.specs.declared.scope.Scope.{Scope}
-use Rattle.mk_expand.specs.Words.{is_text}
+use Rattle.br_path.specs.Text.{is_text}
 use Rattle.mk_expand.specs.Vars.{hidden}
 
 -- the variables that are set

@@ -1,6 +1,6 @@
 -- The functions: names, and how many arguments they take.
 use Rattle.std.specs.Prelude.{ℕ, ◌-◌, nat_lt, Bool, true, List, [], ◌∷◌, Option, None, Some, find, codes}
-use Rattle.mk_expand.specs.Words.{is_text}
+use Rattle.br_path.specs.Text.{is_text}
 use Rattle.mk_expand.specs.declared.function.Function.{Function}
 use Rattle.mk_expand.specs.declared.function.Function.TheVariants.{Subst, Strip, AddPrefix, AddSuffix, Filter, FilterOut, PatSubst, Sort, FirstWord, If, Foreach, Call}
 

@@ -4,7 +4,7 @@ use Rattle.std.specs.Map.{lookup}
 use Rattle.indexmap.specs.IndexMap.{insert_entry}
 use Rattle.mk_expand.specs.declared.vars.Variable.{Variable}
 use Rattle.mk_expand.specs.declared.locals.Local.{Local}
-use Rattle.mk_expand.specs.Words.{is_text}
+use Rattle.br_path.specs.Text.{is_text}
 
 -- variables by name, in the order in which they were first set
 abbrev pub Table : Type 0

@@ -11,10 +11,6 @@ is_blank b = b == 32 || b == 9
 abbrev pub is_white : ℕ → Bool
 is_white b = b == 32 || b == 9 || b == 10
 
--- two texts are the same
-abbrev pub is_text : List ℕ → List ℕ → Bool
-is_text = pointwise nat_eq
-
 -- the text has a byte
 abbrev pub is_filled : List ℕ → Bool
 is_filled text = not (length text == 0)

@@ -144,8 +144,8 @@ fn put_matched(
 ) -> Result<(), ExpandFault>
     ensures { IsRun (put (row (filter (λ word. is_matched (words patterns.now) word) (words text.now))) out.old) result out.new }
 {
-    let kept = matched(alloc, &words(alloc, patterns)?, &words(alloc, text)?)?;
-    put_row(&kept, out)
+    let patterns = words(alloc, patterns)?;
+    put_fitting(&patterns, &words(alloc, text)?, out)
 }
 
 // The words of a text that fit no word of another.
@@ -157,42 +157,38 @@ fn put_unmatched(
 ) -> Result<(), ExpandFault>
     ensures { IsRun (put (row (filter (λ word. not (is_matched (words patterns.now) word)) (words text.now))) out.old) result out.new }
 {
-    let kept = unmatched(alloc, &words(alloc, patterns)?, &words(alloc, text)?)?;
-    put_row(&kept, out)
+    let patterns = words(alloc, patterns)?;
+    put_others(&patterns, &words(alloc, text)?, out)
 }
 
 // The words that fit one of the patterns.
-fn matched<'a>(
-    alloc: Global,
-    patterns: &[&[u8]],
-    words: &[&'a [u8]],
-) -> Result<Vec<&'a [u8]>, Memory>
-    ensures { IfOk result (λ kept. map (λ word. word.now) kept.items ≡ filter (λ word. is_matched (map (λ word. word.now) patterns.now) word) (map (λ word. word.now) words.now)) }
+#[tactic(auto, using(crate::proofs::Rows::rows))]
+fn put_fitting(patterns: &[&[u8]], words: &[&[u8]], out: &mut Draft) -> Result<(), ExpandFault>
+    ensures { IsRun (put (row (filter (λ word. is_matched (map (λ word. word.now) patterns.now) word) (map (λ word. word.now) words.now))) out.old) result out.new }
 {
-    let mut kept = Vec::new(alloc);
+    let mut gap: &[u8] = b"";
     for word in words {
         if is_matched(patterns, word) {
-            kept.push(*word)?;
+            put_two(gap, word, out)?;
+            gap = b" ";
         }
     }
-    Ok(kept)
+    Ok(())
 }
 
 // The words that fit none of the patterns.
-fn unmatched<'a>(
-    alloc: Global,
-    patterns: &[&[u8]],
-    words: &[&'a [u8]],
-) -> Result<Vec<&'a [u8]>, Memory>
-    ensures { IfOk result (λ kept. map (λ word. word.now) kept.items ≡ filter (λ word. not (is_matched (map (λ word. word.now) patterns.now) word)) (map (λ word. word.now) words.now)) }
+#[tactic(auto, using(crate::proofs::Rows::rows))]
+fn put_others(patterns: &[&[u8]], words: &[&[u8]], out: &mut Draft) -> Result<(), ExpandFault>
+    ensures { IsRun (put (row (filter (λ word. not (is_matched (map (λ word. word.now) patterns.now) word)) (map (λ word. word.now) words.now))) out.old) result out.new }
 {
-    let mut kept = Vec::new(alloc);
+    let mut gap: &[u8] = b"";
     for word in words {
         if !is_matched(patterns, word) {
-            kept.push(*word)?;
+            put_two(gap, word, out)?;
+            gap = b" ";
         }
     }
-    Ok(kept)
+    Ok(())
 }
 
 // The distinct words in the order of their bytes.
@@ -237,13 +233,13 @@ fn put_unquoted(alloc: Global, text: &[u8], out: &mut Draft) -> Result<(), Expan
 fn unquoted(alloc: Global, text: &[u8]) -> Result<Bytes, Memory>
     ensures { IfOk result (λ bare. bare ≡ filter (λ b. not (b == 34)) text.now) }
 {
-    let mut items = Vec::new(alloc);
-    for byte in text {
-        if *byte != b'"' {
-            items.push(*byte)?;
-        }
-    }
-    Ok(Bytes { items })
+    Ok(Bytes {
+        items: text
+            .iter()
+            .copied()
+            .filter(|byte| *byte != b'"')
+            .collect(alloc)?,
+    })
 }
 
 // A text with one text in it exchanged for another, from the left without overlap.

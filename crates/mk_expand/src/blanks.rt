@@ -23,13 +23,11 @@ pub(crate) fn is_white(byte: u8) -> bool
 pub fn words<'a>(alloc: Global, text: &'a [u8]) -> Result<Vec<&'a [u8]>, Memory>
     ensures { IfOk result (λ found. map (λ word. word.now) found.items ≡ words text.now) }
 {
-    let mut found = Vec::new(alloc);
-    for word in text.split(|byte| is_white(*byte)) {
-        if !word.is_empty() {
-            found.push(word)?;
-        }
-    }
-    Ok(found)
+    Ok(
+        text.split(|byte| is_white(*byte))
+            .filter(|word| !word.is_empty())
+            .collect(alloc)?,
+    )
 }
 
 /// The place of the first blank of a text.

@@ -97,10 +97,10 @@ fn reference_within(
     ensures fault { IfErr result (λ fault. fault ≢ no_memory → text_of (reference_run (found vars.now) depth locals.now name.now) ≡ Err fault) }
 {
     let given = given_name(alloc, name)?;
-    let mut out = Draft::new(alloc);
-    let name = out.take(given);
     let scope = Scope::new(alloc, locals)?;
     let mut expander = Expander { alloc, vars, scope };
+    let mut out = Draft::new(alloc);
+    let name = out.take(given);
     expander.named(depth, name, &mut out)?;
     Ok(out.into_bytes())
 }

@@ -29,8 +29,6 @@ mod locals;
 mod pattern;
 mod piece;
 mod scope;
-#[cfg(test)]
-mod tests;
 mod vars;
 
 pub use apply::{sorts_rise, subst_replaces};

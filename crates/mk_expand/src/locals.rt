@@ -1,5 +1,5 @@
 //! Local names that hide variables.
-ghost use Rattle.std.specs.Prelude.{◌≡◌, ℕ, List, [], ◌∷◌, ◌++◌, OnOk, OnErr, IfOk, option_map};
+ghost use Rattle.std.specs.Prelude.{◌≡◌, ℕ, List, [], ◌∷◌, ◌++◌, OnOk, OnErr, option_map};
 ghost use Rattle.mk_expand.specs.Vars.{hidden};
 
 use br_path::{Bytes, Memory};
@@ -7,14 +7,14 @@ use std::alloc::Global;
 use std::marker::Model;
 
 /// A name and what it stands for.
-#[derive(Debug, Drop)]
+#[derive(Debug, Clone, Drop)]
 pub struct Local {
     pub name: Bytes,
     pub bytes: Bytes,
 }
 
 /// Names that hide variables, in order: of two with the same name the last one counts.
-#[derive(Debug, Drop)]
+#[derive(Debug, Clone, Drop)]
 pub struct Locals {
     items: Vec<Local>,
 }
@@ -52,17 +52,6 @@ impl Locals {
         ensures { (locals : List Local) (last : Local) → self.old ≡ locals ++ last ∷ [] → self.new ≡ locals }
     {
         let _last = self.items.pop();
-    }
-
-    /// The same names once more.
-    pub(crate) fn copy(&self, alloc: Global) -> Result<Locals, Memory>
-        ensures { IfOk result (λ l. l ≡ self.now) }
-    {
-        let mut copy = Locals::new(alloc);
-        for local in &self.items {
-            copy.add(local.name.copy()?, local.bytes.copy()?)?;
-        }
-        Ok(copy)
     }
 
     /// What a name stands for.

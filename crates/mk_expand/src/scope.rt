@@ -20,7 +20,7 @@ impl Scope {
     {
         Ok(Scope {
             active: no_names(alloc),
-            locals: locals.copy(alloc)?,
+            locals: locals.clone()?,
         })
     }
 

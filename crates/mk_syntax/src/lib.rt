@@ -25,8 +25,6 @@ mod lines;
 mod reader;
 mod recipe;
 mod row;
-#[cfg(test)]
-mod tests;
 mod unfinished;
 
 pub use comment::comments_end;

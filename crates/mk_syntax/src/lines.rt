@@ -10,7 +10,7 @@ use memchr::memchr;
 use std::alloc::{AllocError, Global};
 
 /// A line with the number of its first part, which is its own where it isn't joined.
-#[derive(Debug, Drop)]
+#[derive(Drop)]
 pub(crate) struct Line {
     pub(crate) number: u32,
     pub(crate) bytes: Bytes,

@@ -20,7 +20,7 @@ use br_path::Names;
 use std::alloc::Global;
 
 /// What is read so far.
-#[derive(Debug, Drop)]
+#[derive(Drop)]
 pub(crate) struct Reader {
     statements: Recipe,
     conditions: Conditions,
@@ -143,16 +143,13 @@ impl Reader {
         requires { self.old.definition ≡ None }
         ensures { IsStep (else_if self.old.statements self.old.conditions line what) result self.new }
     {
-        match self.conditions.pop() {
-            None => Err(refused(line, MkKind::StrayElse)),
-            Some(inner) => {
-                if inner.past_else {
-                    return Err(refused(line, MkKind::BadLine));
-                }
-                self.conditions.push(inner)?;
-                self.add(line, what)
-            }
-        }
+        let kind = match self.conditions.innermost() {
+            None => MkKind::StrayElse,
+            Some(inner) if inner.past_else => MkKind::BadLine,
+            Some(_) => return self.add(line, what),
+        };
+        drop(what);
+        Err(refused(line, kind))
     }
 
     fn plain_else(&mut self, line: u32) -> Result<(), MkError>
@@ -185,10 +182,10 @@ impl Reader {
     }
 
     /// Why a malformed `else` or `endif` is refused.
-    fn loose(&mut self, line: u32) -> MkError
-        ensures { IsStep (loose self.old.conditions line) (Err result) self.new }
+    fn loose(&self, line: u32) -> MkError
+        ensures { IsStep (loose self.now.conditions line) (Err result) self.now }
     {
-        match self.conditions.pop() {
+        match self.conditions.innermost() {
             None => refused(line, MkKind::StrayElse),
             Some(_) => refused(line, MkKind::BadLine),
         }

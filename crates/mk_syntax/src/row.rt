@@ -12,7 +12,7 @@ use br_path::{Bytes, Memory};
 use std::alloc::Global;
 
 /// What a line outside `define` is.
-#[derive(Debug, Drop)]
+#[derive(Drop)]
 pub(crate) enum Row {
     /// A line on which nothing is left.
     Nothing,
@@ -27,7 +27,7 @@ pub(crate) enum Row {
 }
 
 /// What a line in a `define` is.
-#[derive(Debug, Drop)]
+#[derive(Drop)]
 pub(crate) enum Inside {
     /// A line of the value.
     Text,

@@ -1,6 +1,7 @@
 //! What stands open while a recipe is read.
-ghost use Rattle.std.specs.Prelude.{◌≡◌, [], ◌∷◌, OnOk, IfOk, MatchOption};
+ghost use Rattle.std.specs.Prelude.{◌≡◌, List, [], ◌∷◌, OnOk, IfOk, MatchOption};
 ghost use Rattle.std.specs.List.{join_with_byte};
+ghost use Rattle.mk_syntax.specs.declared.unfinished.Condition.{Condition as ConditionValue};
 ghost use Rattle.mk_syntax.specs.Unfinished.{outermost};
 
 use br_path::{Bytes, Memory, Names};
@@ -8,7 +9,7 @@ use std::alloc::Global;
 use std::marker::Model;
 
 /// A condition that isn't ended yet.
-#[derive(Clone, Copy, Debug)]
+#[derive(Clone, Copy)]
 pub(crate) struct Condition {
     pub(crate) line: u32,
     /// Whether its plain `else` was read.
@@ -16,7 +17,7 @@ pub(crate) struct Condition {
 }
 
 /// The conditions that stand open, innermost first.
-#[derive(Debug, Drop)]
+#[derive(Drop)]
 pub(crate) struct Conditions {
     items: Vec<Condition>,
 }
@@ -31,7 +32,7 @@ impl Model for Conditions {
 }
 
 /// A `define` that isn't ended yet, with its lines so far.
-#[derive(Debug, Drop)]
+#[derive(Drop)]
 pub(crate) struct Definition {
     pub(crate) line: u32,
     pub(crate) name: Bytes,
@@ -59,6 +60,13 @@ impl Conditions {
         ensures { MatchOption result (self.old ≡ []) (λ condition. self.old ≡ condition ∷ self.new) }
     {
         self.items.pop()
+    }
+
+    /// The innermost.
+    pub(crate) fn innermost(&self) -> Option<Condition>
+        ensures { MatchOption result (self.now ≡ []) (λ condition. (outer : List ConditionValue) × (self.now ≡ condition ∷ outer)) }
+    {
+        self.items.last().copied()
     }
 
     /// The outermost.

@@ -8,8 +8,6 @@
 
 mod plan;
 mod rows;
-#[cfg(test)]
-mod tests;
 
 pub use plan::Plan;
 pub use rows::{CommandLine, Lines, Part, Step, StepRow, StepRows, TaskRow, TaskRows};

@@ -2,14 +2,15 @@
 use Rattle.std.proofs.Common.{ℕ, ◌≡◌, ◌≢◌, ◌+◌, Bool, true, false, not, ◌&&◌, cond, List, [], ◌∷◌, ◌++◌, length, Option, Some, None, Result, Ok, Err, refl, ap, subst}
 use Rattle.std.specs.Prelude.{nat_le, codes}
 use Rattle.br_path.specs.Files.{FileMap}
-use Rattle.kc_expr.specs.Values.{Table as Values}
+use Rattle.kc_values.specs.Values.{Table as Values}
 use Rattle.dep_graph.specs.Needs.{Needs, needs_of}
 use Rattle.mk_expand.specs.declared.locals.Local.{Local}
 use Rattle.mk_expand.specs.declared.fault.ExpandFault.{ExpandFault}
 use Rattle.mk_expand.specs.declared.fault.ExpandFault.TheVariants.{TooCostly, Memory as no_value_memory}
 use Rattle.mk_expand.specs.Meaning.{Environment}
 use Rattle.mk_expand.specs.Vars.{Table, found}
-use Rattle.mk_expand.specs.Words.{words, is_text}
+use Rattle.mk_expand.specs.Words.{words}
+use Rattle.br_path.specs.Text.{is_text}
 use Rattle.mk_expand.specs.Reference.{reference_answer}
 use Rattle.mk_expand.proofs.References.{reference_is_exact}
 use Rattle.mk_expand.proofs.NoMemory.{text_held}

@@ -6,7 +6,7 @@ use Rattle.cycle_walks.specs.Walks.{IsLeast, OnCycle}
 use Rattle.dep_graph.specs.Needs.{Needs}
 use Rattle.dep_graph.specs.Order.{IsOrder}
 use Rattle.dep_graph.proofs.OneOrder.{one_order, no_cycle_from}
-use Rattle.kc_expr.specs.Values.{Table as Values}
+use Rattle.kc_values.specs.Values.{Table as Values}
 use Rattle.mk_expand.specs.Vars.{Table}
 use Rattle.plan_rows.specs.Plan.{Planned}
 use Rattle.plan_rows.specs.declared.rows.TaskRow.{TaskRow}

@@ -11,32 +11,38 @@ use Rattle.recipe_set.specs.declared.fault.PlanFault.{PlanFault}
 use Rattle.selection.specs.declared.listed.Listed.{Listed}
 use Rattle.recipe_plan.specs.Answers.{◌>>=◌, in_turn}
 use Rattle.recipe_plan.specs.Needs.{task_at}
-use Rattle.recipe_plan.specs.Rows.{all_rows, put_rows, task_row}
+use Rattle.recipe_plan.specs.Rows.{all_rows, put_rows, put_task, task_row}
 use Rattle.recipe_plan.proofs.TextLimits.{bind_ok}
 
 -- ---- the rows of one package
 
-module _ {own vars : Table} (needs : Needs) (item : Listed) {items rows : List TaskRow} (same : own ≡ vars) (held : items ≡ rows) where
-  -- an answer about the same variables and rows
-  same_answer : (answer : Result (List TaskRow) PlanFault) → put_rows own needs items item ≡ answer → put_rows vars needs rows item ≡ answer
-  same_answer answer is = subst (λ table. put_rows table needs rows item ≡ answer) same (subst (λ list. put_rows own needs list item ≡ answer) held is)
+-- a package's two tasks are put one after the other
+puts_in_turn : (vars : Table) (needs : Needs) (rows : List TaskRow) (item : Listed)
+    → put_rows vars needs rows item ≡ (put_task vars needs rows item Prep >>= λ more. put_task vars needs more item Make)
+puts_in_turn vars needs rows item = made (task_row vars needs item Prep (length rows))
+  where
+    made : (prep : Result TaskRow PlanFault) → (prep >>= λ prep. task_row vars needs item Make (length rows + 1) >>= λ make. Ok (rows ++ prep ∷ make ∷ []))
+        ≡ (prep >>= (λ row. Ok (rows ++ row ∷ [])) >>= λ more. put_task vars needs more item Make)
+    made (Err fault) = refl
+    made (Ok prep) = λ i. task_row vars needs item Make (sym (length-append rows (prep ∷ [])) i) >>= λ make. Ok (sym (append_assoc rows (prep ∷ []) (make ∷ [])) i)
 
-  pub first_fails : (fault : PlanFault) → task_row own needs item Prep (length items) ≡ Err fault → put_rows vars needs rows item ≡ Err fault
-  first_fails fault fails =
-      same_answer (Err fault) (ap (λ r. r >>= λ prep. task_row own needs item Make (length items + 1) >>= λ make. Ok (items ++ prep ∷ make ∷ [])) fails)
+module _ {own vars : Table} (needs : Needs) (rows : List TaskRow) (item : Listed) (same : own ≡ vars) where
+  pub prep_fails : (fault : PlanFault) → put_task own needs rows item Prep ≡ Err fault → put_rows vars needs rows item ≡ Err fault
+  prep_fails fault fails =
+      subst (λ table. put_rows table needs rows item ≡ Err fault) same (puts_in_turn own needs rows item ∙ ap (λ r. r >>= λ more. put_task own needs more item Make) fails)
 
-  pub second_fails : (prep : TaskRow) (fault : PlanFault) → task_row own needs item Prep (length items) ≡ Ok prep → task_row own needs item Make (length items + 1) ≡ Err fault
-      → put_rows vars needs rows item ≡ Err fault
-  second_fails prep fault first fails =
-      same_answer (Err fault) (ap (λ r. r >>= λ prep. task_row own needs item Make (length items + 1) >>= λ make. Ok (items ++ prep ∷ make ∷ [])) first
-      ∙ ap (λ r. r >>= λ make. Ok (items ++ prep ∷ make ∷ [])) fails)
+  pub prep_put : (more : List TaskRow) → put_task own needs rows item Prep ≡ Ok more → put_task own needs more item Make ≡ put_rows vars needs rows item
+  prep_put more is =
+      sym (subst (λ table. put_rows table needs rows item ≡ put_task own needs more item Make) same (puts_in_turn own needs rows item ∙ ap (λ r. r >>= λ more. put_task own needs more item Make) is))
 
-  pub both_put : (prep make : TaskRow) (one two : List TaskRow) → task_row own needs item Prep (length items) ≡ Ok prep → task_row own needs item Make (length items + 1) ≡ Ok make
-      → one ≡ items ++ prep ∷ [] → two ≡ one ++ make ∷ [] → put_rows vars needs rows item ≡ Ok two
-  both_put prep make one two first second one_is two_is =
-      let whole : items ++ prep ∷ make ∷ [] ≡ two = sym (two_is ∙ (ap (λ list. list ++ make ∷ []) one_is ∙ append_assoc items (prep ∷ []) (make ∷ []))) in
-      same_answer (Ok two) (ap (λ r. r >>= λ prep. task_row own needs item Make (length items + 1) >>= λ make. Ok (items ++ prep ∷ make ∷ [])) first
-      ∙ (ap (λ r. r >>= λ make. Ok (items ++ prep ∷ make ∷ [])) second ∙ ap Ok whole))
+module _ (vars : Table) (needs : Needs) (item : Listed) (part : Part) {items rows : List TaskRow} (held : items ≡ rows) where
+  -- the row of a task is put behind the others, or its fault ends it
+  pub row_fails : (fault : PlanFault) → task_row vars needs item part (length items) ≡ Err fault → put_task vars needs rows item part ≡ Err fault
+  row_fails fault fails = subst (λ list. put_task vars needs list item part ≡ Err fault) held (ap (λ r. r >>= λ row. Ok (items ++ row ∷ [])) fails)
+
+  pub row_put : (row : TaskRow) (more : List TaskRow) → task_row vars needs item part (length items) ≡ Ok row → more ≡ items ++ row ∷ [] → put_task vars needs rows item part ≡ Ok more
+  row_put row more made is =
+      subst (λ list. put_task vars needs list item part ≡ Ok more) held (ap (λ r. r >>= λ row. Ok (items ++ row ∷ [])) made ∙ ap Ok (sym is))
 
 -- two rows are put behind the others
 put_is : (vars : Table) (needs : Needs) (rows : List TaskRow) (item : Listed) (more : List TaskRow) → put_rows vars needs rows item ≡ Ok more

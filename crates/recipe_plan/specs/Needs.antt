@@ -2,7 +2,7 @@
 use Rattle.std.specs.Prelude.{◌≡◌, ℕ, ◌+◌, ◌*◌, ◌⊎◌, ◌↔◌, List, ◌∷◌, ◌++◌, [], length, flat_map, Contains, slice_get, Option, Some, codes}
 use Rattle.std.specs.List.{position}
 use Rattle.dep_graph.specs.Needs.{Needs, needs_of, IsNeeds}
-use Rattle.mk_expand.specs.Words.{is_text}
+use Rattle.br_path.specs.Text.{is_text}
 use Rattle.plan_rows.specs.declared.rows.Part.{Part}
 use Rattle.plan_rows.specs.declared.rows.Part.TheVariants.{Prep, Make}
 use Rattle.selection.specs.declared.listed.Listed.{Listed}

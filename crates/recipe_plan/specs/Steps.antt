@@ -1,6 +1,6 @@
 -- The steps of a task, and what is run in them.
 use Rattle.std.specs.Prelude.{ℕ, Bool, true, false, ◌&&◌, not, List, [], ◌∷◌, ◌++◌, Option, None, Some, is_some, Result, Ok, codes, if◌then◌else◌}
-use Rattle.mk_expand.specs.Words.{is_text}
+use Rattle.br_path.specs.Text.{is_text}
 use Rattle.mk_expand.specs.Vars.{Table, found}
 use Rattle.plan_rows.specs.declared.rows.Part.{Part}
 use Rattle.plan_rows.specs.declared.rows.Part.TheVariants.{Prep, Make}

@@ -1,7 +1,7 @@
 //! What holds of plans whatever the code does.
 ghost use Rattle.std.specs.Prelude.{◌≡◌, ℕ, List, Result};
 ghost use Rattle.br_path.specs.Files.{FileMap};
-ghost use Rattle.kc_expr.specs.Values.{Table};
+ghost use Rattle.kc_values.specs.Values.{Table};
 ghost use Rattle.plan_rows.specs.Plan.{Planned};
 ghost use Rattle.recipe_plan.specs.Planning.{IsNaming, IsPlanning};
 ghost use Rattle.recipe_set.specs.declared.fault.PlanFault.{PlanFault};

@@ -13,7 +13,7 @@ use crate::needs::task_graph;
 use crate::rows::all_rows;
 use br_path::{Bytes, Files, Memory, Names, Numbers};
 use dep_graph::{Graph, OrderFault};
-use kc_expr::Values;
+use kc_values::Values;
 use mk_expand::Vars;
 use plan_rows::{Plan, TaskRows};
 use recipe_set::{PlanFault, Recipes, read_recipes};

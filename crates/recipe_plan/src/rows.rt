@@ -5,7 +5,7 @@ ghost use Rattle.plan_rows.specs.declared.rows.Part.TheVariants.{Make};
 ghost use Rattle.plan_rows.specs.Plan.{own_prep_of};
 ghost use Rattle.recipe_plan.specs.Answers.{Gives, Leaves};
 ghost use Rattle.recipe_plan.specs.Needs.{AreNeeds};
-ghost use Rattle.recipe_plan.specs.Rows.{all_rows, is_make, is_readable, put_rows, row_of, task_row};
+ghost use Rattle.recipe_plan.specs.Rows.{all_rows, is_make, is_readable, put_rows, put_task, row_of, task_row};
 ghost use Rattle.recipe_plan.specs.Owned.{IsOwner};
 
 use crate::steps::task_steps;
@@ -50,11 +50,29 @@ fn put_rows(
     ensures { Leaves (put_rows vars.now graph.now rows.old item.now) result rows.new }
 {
     let owner = Owner::new(alloc, vars, &item.made)?;
-    let prep = rows.items.as_slice().len() as u32;
-    let first = task_row(alloc, &owner, graph, item, Part::Prep, prep)?;
-    let second = task_row(alloc, &owner, graph, item, Part::Make, prep + 1)?;
-    rows.items.push(first)?;
-    rows.items.push(second)?;
+    put_task(alloc, &owner, graph, rows, item, Part::Prep)?;
+    put_task(alloc, &owner, graph, rows, item, Part::Make)
+}
+
+/// Puts the row of a package's task behind those of the tasks before it.
+fn put_task(
+    alloc: Global,
+    owner: &Owner<'_>,
+    graph: &Graph,
+    rows: &mut TaskRows,
+    item: &Listed,
+    part: Part,
+) -> Result<(), PlanFault>
+    requires owner { IsOwner owner.now }
+    requires made { owner.now.made.now ≡ item.now.made }
+    requires few { length graph.now ≤ 512 }
+    requires task { length rows.old < length graph.now }
+    requires make { part ≡ Make → 1 ≤ length rows.old }
+    ensures { Leaves (put_task owner.now.vars.now graph.now rows.old item.now part) result rows.new }
+{
+    let task = rows.items.as_slice().len() as u32;
+    let row = task_row(alloc, owner, graph, item, part, task)?;
+    rows.items.push(row)?;
     Ok(())
 }
 
@@ -105,12 +123,11 @@ fn row_of(
 fn makes(alloc: Global, needs: &[u32]) -> Result<Numbers, Memory>
     ensures { IfOk result (λ made. made ≡ filter is_make needs.now) }
 {
-    let mut items = Vec::new(alloc);
-    for need in needs {
-        if is_make(*need) {
-            items.push(*need)?;
-        }
-    }
+    let items = needs
+        .iter()
+        .copied()
+        .filter(|need| is_make(*need))
+        .collect(alloc)?;
     Ok(Numbers { items })
 }
 
@@ -118,12 +135,11 @@ fn makes(alloc: Global, needs: &[u32]) -> Result<Numbers, Memory>
 fn readable(alloc: Global, part: Part, needs: &[u32]) -> Result<Numbers, Memory>
     ensures { IfOk result (λ read. read ≡ filter (is_readable part) needs.now) }
 {
-    let mut items = Vec::new(alloc);
-    for need in needs {
-        if is_readable(part, *need) {
-            items.push(*need)?;
-        }
-    }
+    let items = needs
+        .iter()
+        .copied()
+        .filter(|need| is_readable(part, *need))
+        .collect(alloc)?;
     Ok(Numbers { items })
 }
 

@@ -1,8 +1,8 @@
 //! The steps of a task, and what is run in them.
-ghost use Rattle.std.specs.Prelude.{◌≡◌, ◌≤◌, ◌++◌, [], IfOk};
+ghost use Rattle.std.specs.Prelude.{◌≡◌, ◌≤◌, ◌++◌, [], IfOk, codes};
 ghost use Rattle.recipe_set.specs.Names.{upper_form};
 ghost use Rattle.recipe_plan.specs.Answers.{Gives, Leaves};
-ghost use Rattle.recipe_plan.specs.Steps.{commands, commands_of, copies, default_of, has_commands, has_step, hooks_before, hooks_behind, is_extract, is_set, put_row, put_step, setting, step_name, step_row, steps_of, task_steps, variable_of};
+ghost use Rattle.recipe_plan.specs.Steps.{commands, commands_of, copies, default_of, has_commands, has_step, is_extract, is_set, put_row, put_step, setting, step_name, step_row, steps_of, task_steps, variable_of};
 ghost use Rattle.recipe_plan.specs.Owned.{IsOwner};
 ghost use Rattle.recipe_plan.specs.Texts.{hooks, put_variable};
 ghost use Rattle.plan_rows.specs.declared.rows.Part.TheVariants.{Make};
@@ -120,47 +120,34 @@ fn step_row(
     ensures row { Gives (step_row owner.now.vars.now owner.now.made.now bytes step) result }
     ensures bytes { IfOk result (λ row. row.1 ≤ 262144) }
 {
-    let before = hooks_before(alloc, owner, bytes, step)?;
+    let copy_source = copies(alloc, owner, step)?;
+    let before = step_hooks(alloc, owner, bytes, b"_PRE_", step)?;
     let lines = commands(alloc, owner, before.bytes(), step)?;
-    let after = hooks_behind(alloc, owner, lines.bytes(), step)?;
+    let after = step_hooks(alloc, owner, lines.bytes(), b"_POST_", step)?;
     let bytes = after.bytes();
     let row = StepRow {
         step,
         before: before.into_lines(),
-        copy_source: copies(alloc, owner, step)?,
+        copy_source,
         lines: lines.into_lines(),
         after: after.into_lines(),
     };
     Ok((row, bytes))
 }
 
-/// The lines of the hooks before a step.
-fn hooks_before(
+/// The lines of the hooks before a step, or of those behind it, by what stands before the step's name.
+fn step_hooks(
     alloc: Global,
     owner: &Owner<'_>,
     bytes: usize,
+    front: &[u8],
     step: Step,
 ) -> Result<Texts, PlanFault>
     requires owner { IsOwner owner.now }
     requires bytes { bytes ≤ 262144 }
-    ensures { Gives (hooks owner.now.vars.now owner.now.made.now bytes (hooks_before owner.now.made.now step)) result }
+    ensures { Gives (hooks owner.now.vars.now owner.now.made.now bytes (variable_of owner.now.made.now front.now step (codes "_HOOKS"))) result }
 {
-    let variable = variable(alloc, owner, b"_PRE_", step, b"_HOOKS")?;
-    Texts::hooks(alloc, owner, bytes, variable.as_slice())
-}
-
-/// The lines of the hooks behind a step.
-fn hooks_behind(
-    alloc: Global,
-    owner: &Owner<'_>,
-    bytes: usize,
-    step: Step,
-) -> Result<Texts, PlanFault>
-    requires owner { IsOwner owner.now }
-    requires bytes { bytes ≤ 262144 }
-    ensures { Gives (hooks owner.now.vars.now owner.now.made.now bytes (hooks_behind owner.now.made.now step)) result }
-{
-    let variable = variable(alloc, owner, b"_POST_", step, b"_HOOKS")?;
+    let variable = variable(alloc, owner, front, step, b"_HOOKS")?;
     Texts::hooks(alloc, owner, bytes, variable.as_slice())
 }
 

@@ -118,8 +118,9 @@ impl Texts {
         ensures { Gives (hooks owner.now.vars.now owner.now.made.now bytes variable.now) result }
     {
         let names = owner.value(alloc, variable)?;
+        let variables = words(alloc, names.as_slice())?;
         let mut texts = Texts::behind(alloc, bytes);
-        texts.put_variables(alloc, owner, &words(alloc, names.as_slice())?)?;
+        texts.put_variables(alloc, owner, &variables)?;
         Ok(texts)
     }
 

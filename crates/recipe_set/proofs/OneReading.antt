@@ -5,7 +5,7 @@ use Rattle.std.proofs.lemmas.Bool.{true≢false}
 use Rattle.br_path.specs.Path.{Names, path_cmp}
 use Rattle.br_path.specs.Files.{FileMap}
 use Rattle.br_path.proofs.PathOrder.{path_total, path_same}
-use Rattle.kc_expr.specs.Values.{Table as Values}
+use Rattle.kc_values.specs.Values.{Table as Values}
 use Rattle.mk_syntax.specs.declared.fault.MkFault.{MkFault}
 use Rattle.mk_syntax.specs.Lines.{joined_lines}
 use Rattle.mk_syntax.proofs.Answers.{one_recipe, one_fault, not_both}

@@ -1,5 +1,5 @@
 -- What the statements of a recipe come to one by one is what the recipe makes of what is read before it.
-use Rattle.std.proofs.Common.{◌≡◌, ◌≢◌, ℕ, ◌+◌, ◌≤◌, Bool, true, false, cond, Ok, Err, Result, IfOk, IfErr, List, [], ◌∷◌, length, sym, refl, ap, ◌∙◌, subst, arith}
+use Rattle.std.proofs.Common.{◌≡◌, ◌≢◌, ℕ, ◌+◌, ◌≤◌, true, false, cond, Ok, Err, Result, IfOk, IfErr, List, [], ◌∷◌, length, sym, refl, ap, ◌∙◌, subst, arith}
 use Rattle.std.specs.Prelude.{◌==◌}
 use Rattle.std.proofs.lemmas.List.{append-nil}
 use Rattle.mk_syntax.specs.declared.recipe.Statement.{Statement}
@@ -69,22 +69,21 @@ module _ (folder : List ℕ) (draft : Draft) where
     pub recipe_stopped : (fault : PlanFault) → Runs folder (at draft []) (whats statements) (Err fault) → ReadsRecipe earlier draft folder text (Err fault)
     recipe_stopped fault runs = comes_to (Err fault) (Err fault) runs (λ end. kept_err end fault)
 
-module _ (earlier : List (List ℕ)) (draft : Draft) (folder text : List ℕ) (allowed : Bool) (is : allowed ≡ is_allowed earlier folder) where
-  module _ (path : List (List ℕ)) (placed : path ≡ recipe_path folder) where
-    -- a recipe whose folder's name is wrong
-    pub named_wrong : allowed ≡ false → ReadsRecipe earlier draft folder text (Err (WrongName path))
-    named_wrong refused = subst (λ p. ReadsRecipe earlier draft folder text (Err (WrongName p))) (sym placed) (wrong_name (sym is ∙ refused))
+module _ (earlier : List (List ℕ)) (draft : Draft) (folder text : List ℕ) (path : List (List ℕ)) (placed : path ≡ recipe_path folder) where
+  -- a recipe whose folder's name is wrong
+  pub named_wrong : is_allowed earlier folder ≡ false → ReadsRecipe earlier draft folder text (Err (WrongName path))
+  named_wrong refused = subst (λ p. ReadsRecipe earlier draft folder text (Err (WrongName p))) (sym placed) (wrong_name refused)
 
-    -- a recipe that isn't one
-    pub not_read : (fault : MkFault) → allowed ≡ true → IsFirstFault (joined_lines text) fault → ReadsRecipe earlier draft folder text (Err (Recipe path fault))
-    not_read fault passes is_fault = subst (λ p. ReadsRecipe earlier draft folder text (Err (Recipe p fault))) (sym placed) (no_recipe fault (sym is ∙ passes) is_fault)
+  -- a recipe that isn't one
+  pub not_read : (fault : MkFault) → is_allowed earlier folder ≡ true → IsFirstFault (joined_lines text) fault → ReadsRecipe earlier draft folder text (Err (Recipe path fault))
+  not_read fault allowed is_fault = subst (λ p. ReadsRecipe earlier draft folder text (Err (Recipe p fault))) (sym placed) (no_recipe fault allowed is_fault)
 
-  -- a recipe that is read
-  pub statements_read : (statements : List Statement) (result : Outcome) → allowed ≡ true → IsRecipeOf (joined_lines text) statements →
-      IfOk result (λ new. (around : List Branch) × Runs folder (at draft []) (whats statements) (Ok (at new around))) →
-      IfErr result (λ fault. fault ≢ Memory → Runs folder (at draft []) (whats statements) (Err fault)) → IfErr result HoldsNoMemory → IsAnswer (ReadsRecipe earlier draft folder text) result
-  statements_read statements (Ok new) passes is_recipe runs never held = recipe_read folder draft earlier text statements (sym is ∙ passes) is_recipe new runs.0 runs.1
-  statements_read statements (Err fault) passes is_recipe never runs held = (held, λ some. recipe_stopped folder draft earlier text statements (sym is ∙ passes) is_recipe fault (runs some))
+-- a recipe that is read
+pub statements_read : (earlier : List (List ℕ)) (draft : Draft) (folder text : List ℕ) → is_allowed earlier folder ≡ true → (statements : List Statement) (result : Outcome) → IsRecipeOf (joined_lines text) statements →
+    IfOk result (λ new. (around : List Branch) × Runs folder (at draft []) (whats statements) (Ok (at new around))) →
+    IfErr result (λ fault. fault ≢ Memory → Runs folder (at draft []) (whats statements) (Err fault)) → IfErr result HoldsNoMemory → IsAnswer (ReadsRecipe earlier draft folder text) result
+statements_read earlier draft folder text allowed statements (Ok new) is_recipe runs never held = recipe_read folder draft earlier text statements allowed is_recipe new runs.0 runs.1
+statements_read earlier draft folder text allowed statements (Err fault) is_recipe never runs held = (held, λ some. recipe_stopped folder draft earlier text statements allowed is_recipe fault (runs some))
 
 -- a text has no more lines than bytes
 pub line_count-length : (text : List ℕ) → line_count text ≤ length text

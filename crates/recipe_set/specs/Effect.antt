@@ -10,7 +10,8 @@ use Rattle.mk_syntax.specs.declared.recipe.Test.{Test}
 use Rattle.mk_syntax.specs.declared.recipe.Test.TheVariants.{Equal, Defined}
 use Rattle.mk_expand.specs.declared.fault.ExpandFault.{ExpandFault}
 use Rattle.mk_expand.specs.declared.vars.Variable.{Variable}
-use Rattle.mk_expand.specs.Words.{is_text, is_filled}
+use Rattle.mk_expand.specs.Words.{is_filled}
+use Rattle.br_path.specs.Text.{is_text}
 use Rattle.mk_expand.specs.Vars.{Table, found, put, appended}
 use Rattle.mk_expand.specs.Value.{depth_limit}
 use Rattle.mk_expand.specs.Answer.{IsValue, IsFault, outside}

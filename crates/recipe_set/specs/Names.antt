@@ -1,7 +1,7 @@
 -- Names of packages, and what the names of their variables begin with.
 use Rattle.std.specs.Prelude.{ℕ, ◌-◌, ◌==◌, ◌&&◌, ◌||◌, not, nat_eq, nat_le, Bool, false, List, [], ◌∷◌, map, codes, if◌then◌else◌}
 use Rattle.std.specs.List.{list_all, list_any, starts_with}
-use Rattle.mk_expand.specs.Words.{is_text}
+use Rattle.br_path.specs.Text.{is_text}
 
 -- a lower-case letter
 abbrev pub is_letter : ℕ → Bool

@@ -6,7 +6,7 @@ use Rattle.std.specs.List.Sorted.{IsStrictlySortedBy}
 use Rattle.std.specs.declared.cmp.Ordering.TheVariants.{Less}
 use Rattle.br_path.specs.Path.{Names, path_cmp}
 use Rattle.br_path.specs.Files.{FileMap, IsFile}
-use Rattle.kc_expr.specs.Values.{Table as Values}
+use Rattle.kc_values.specs.Values.{Table as Values}
 use Rattle.mk_syntax.specs.declared.recipe.Statement.{Statement}
 use Rattle.mk_syntax.specs.declared.recipe.What.{What}
 use Rattle.mk_syntax.specs.declared.recipe.Test.{Test}

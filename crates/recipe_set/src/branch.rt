@@ -7,7 +7,7 @@ use std::alloc::Global;
 use std::marker::Model;
 
 /// How far a condition has come.
-#[derive(Clone, Copy, Debug)]
+#[derive(Clone, Copy)]
 pub(crate) enum Branch {
     /// The branch that is read is the one that is taken.
     Taken,
@@ -18,7 +18,7 @@ pub(crate) enum Branch {
 }
 
 /// The conditions that stand open, innermost first.
-#[derive(Debug, Drop)]
+#[derive(Drop)]
 pub(crate) struct Conditions {
     items: Vec<Branch>,
 }

@@ -1,6 +1,6 @@
 //! What is read so far, and what statements do to it.
 ghost use Rattle.std.specs.Prelude.{◌≡◌, ◌≢◌, ◌++◌, [], Ok, IfOk, IfErr, OnOk, codes, is_some, true, if◌then◌else◌};
-ghost use Rattle.mk_expand.specs.Words.{is_text};
+ghost use Rattle.br_path.specs.Text.{is_text};
 ghost use Rattle.mk_expand.specs.Vars.{found};
 ghost use Rattle.mk_expand.specs.Value.{depth_limit};
 ghost use Rattle.mk_expand.specs.Answer.{IsValue, outside};
@@ -25,7 +25,7 @@ use mk_syntax::{How, Test};
 use std::alloc::Global;
 
 /// What is read so far: the variables, and the packages that are made.
-#[derive(Debug, Drop)]
+#[derive(Drop)]
 pub(crate) struct Draft {
     pub(crate) vars: Vars,
     pub(crate) packages: PackageSet,
@@ -142,24 +142,26 @@ impl Draft {
         ensures { OnOk result (self.new ≡ with_places folder.now.name name.now self.old) }
     {
         let prefix = upper_form(alloc, name.as_slice())?;
-        let built = joined(alloc, b"/output/build/", name, b"")?;
-        let placed = joined(alloc, b"package/", &folder.name, b"/")?;
-        self.set_place(alloc, &prefix, b"_NAME", name.copy()?)?;
-        self.set_place(alloc, &prefix, b"_DIR", built)?;
-        self.set_place(alloc, &prefix, b"_PKGDIR", placed)
+        self.set_place(alloc, &prefix, b"_NAME", b"", name, b"")?;
+        self.set_place(alloc, &prefix, b"_DIR", b"/output/build/", name, b"")?;
+        self.set_place(alloc, &prefix, b"_PKGDIR", b"package/", &folder.name, b"/")
     }
 
+    /// Sets a variable to a text between two others.
     fn set_place(
         &mut self,
         alloc: Global,
         prefix: &Bytes,
         suffix: &[u8],
-        text: Bytes,
+        front: &[u8],
+        text: &Bytes,
+        back: &[u8],
     ) -> Result<(), Memory>
-        ensures { OnOk result (self.new ≡ set self.old (prefix.now ++ suffix.now) (simple text)) }
+        ensures { OnOk result (self.new ≡ set self.old (prefix.now ++ suffix.now) (simple (front.now ++ text.now ++ back.now))) }
     {
+        let value = joined(alloc, front, text, back)?;
         let name = joined(alloc, b"", prefix, suffix)?;
-        self.vars.set(name, true, text)
+        self.vars.set(name, true, value)
     }
 
     /// Whether a test holds.
@@ -238,7 +240,10 @@ fn no_value(alloc: Global, folder: &Folder, variable: &[u8], fault: ExpandFault)
                 variable,
                 fault,
             },
-            Err(_) => PlanFault::Memory,
+            Err(_) => {
+                drop(fault);
+                PlanFault::Memory
+            }
         },
     }
 }

@@ -1,10 +1,10 @@
 //! The variables before the first recipe.
-ghost use Rattle.std.specs.Prelude.{◌≡◌, ◌∷◌, ◌++◌, [], IfOk, OnOk};
-ghost use Rattle.kc_expr.specs.declared.expr.Kind.TheVariants.{Bool as BoolKind};
-ghost use Rattle.recipe_set.specs.First.{symbol_text, with_symbol, with_preset, symbol_vars, first_vars};
+ghost use Rattle.std.specs.Prelude.{◌≡◌, ◌∷◌, ◌++◌, [], IfOk, OnOk, fold};
+ghost use Rattle.kc_values.specs.declared.kind.Kind.TheVariants.{Bool as BoolKind};
+ghost use Rattle.recipe_set.specs.First.{symbol_text, with_symbol, with_preset, presets, first_vars};
 
 use br_path::{Bytes, Memory};
-use kc_expr::{Kind, Valued, Values};
+use kc_values::{Kind, Valued, Values};
 use mk_expand::Vars;
 use std::alloc::Global;
 
@@ -12,14 +12,34 @@ use std::alloc::Global;
 pub(crate) fn first_vars(alloc: Global, values: &Values) -> Result<Vars, Memory>
     ensures { IfOk result (λ vars. vars ≡ first_vars values.now) }
 {
-    let mut vars = symbol_vars(alloc, values)?;
-    preset(alloc, &mut vars, b"TARGET_DIR", b"/output/target")?;
-    preset(alloc, &mut vars, b"STAGING_DIR", b"/output/staging")?;
-    preset(alloc, &mut vars, b"HOST_DIR", b"/output/host")?;
-    preset(alloc, &mut vars, b"BUILD_DIR", b"/output/build")?;
-    preset(alloc, &mut vars, b"INSTALL", b"install")?;
-    preset(alloc, &mut vars, b"SED", b"sed -i -e")?;
-    Ok(vars)
+    let mut vars = Vars::new(alloc);
+    match put_first(alloc, &mut vars, values) {
+        Ok(()) => Ok(vars),
+        Err(memory) => {
+            drop(vars);
+            Err(memory)
+        }
+    }
+}
+
+/// Sets the symbols, and then the presets.
+fn put_first(alloc: Global, vars: &mut Vars, values: &Values) -> Result<(), Memory>
+    ensures { OnOk result (vars.new ≡ fold with_preset (fold with_symbol vars.old values.now) presets) }
+{
+    put_symbols(alloc, vars, values)?;
+    put_presets(alloc, vars)
+}
+
+/// Sets the presets.
+fn put_presets(alloc: Global, vars: &mut Vars) -> Result<(), Memory>
+    ensures { OnOk result (vars.new ≡ fold with_preset vars.old presets) }
+{
+    preset(alloc, vars, b"TARGET_DIR", b"/output/target")?;
+    preset(alloc, vars, b"STAGING_DIR", b"/output/staging")?;
+    preset(alloc, vars, b"HOST_DIR", b"/output/host")?;
+    preset(alloc, vars, b"BUILD_DIR", b"/output/build")?;
+    preset(alloc, vars, b"INSTALL", b"install")?;
+    preset(alloc, vars, b"SED", b"sed -i -e")
 }
 
 /// Sets a simple variable.
@@ -30,15 +50,15 @@ fn preset(alloc: Global, vars: &mut Vars, name: &[u8], text: &[u8]) -> Result<()
     vars.set(Bytes::from_slice(alloc, name)?, true, text)
 }
 
-fn symbol_vars(alloc: Global, values: &Values) -> Result<Vars, Memory>
-    ensures { IfOk result (λ vars. vars ≡ symbol_vars values.now) }
+/// Sets the symbols that are variables.
+fn put_symbols(alloc: Global, vars: &mut Vars, values: &Values) -> Result<(), Memory>
+    ensures { OnOk result (vars.new ≡ fold with_symbol vars.old values.now) }
 {
-    let mut vars = Vars::new(alloc);
     for place in 0..values.count() {
         let (symbol, valued) = values.at(place).unwrap();
-        put_symbol(alloc, &mut vars, symbol, valued)?;
+        put_symbol(alloc, vars, symbol, valued)?;
     }
-    Ok(vars)
+    Ok(())
 }
 
 fn put_symbol(alloc: Global, vars: &mut Vars, symbol: &[u8], valued: &Valued) -> Result<(), Memory>

@@ -12,14 +12,14 @@ use br_path::{Bytes, Files, Memory, Path, PathFault};
 use std::alloc::Global;
 
 /// The folder of a recipe, by the name of its package and by its path.
-#[derive(Debug, Drop)]
+#[derive(Drop)]
 pub(crate) struct Folder {
     pub(crate) name: Bytes,
     pub(crate) path: Path,
 }
 
 /// A recipe of the files: its folder, its path and its bytes.
-#[derive(Debug, Drop)]
+#[derive(Drop)]
 pub(crate) struct RecipeFile<'a> {
     pub(crate) folder: Folder,
     pub(crate) path: Path,

@@ -35,14 +35,14 @@ impl Model for Packages {
 }
 
 /// Where the recipe of a package stands, and whether it is a host package.
-#[derive(Debug, Drop)]
+#[derive(Drop)]
 struct Place {
     folder: Path,
     host: bool,
 }
 
 /// Packages by name, while recipes are read.
-#[derive(Debug, Drop)]
+#[derive(Drop)]
 pub(crate) struct PackageSet {
     places: BTreeMap<Bytes, Place>,
 }

@@ -19,7 +19,7 @@ use mk_syntax::{Recipe, Test, What};
 use std::alloc::Global;
 
 /// What is read so far, with the conditions that stand open.
-#[derive(Debug, Drop)]
+#[derive(Drop)]
 pub(crate) struct Reader {
     draft: Draft,
     around: Conditions,
@@ -32,10 +32,11 @@ impl Reader {
         ensures { IsStep (Steps folder.now.name self.old what) result self.new }
     {
         if self.around.is_reading() {
-            self.meet(alloc, folder, what)
-        } else {
-            self.skip(alloc, folder, &what)
+            return self.meet(alloc, folder, what);
         }
+        let skipped = self.skip(alloc, folder, &what);
+        drop(what);
+        skipped
     }
 
     fn meet(&mut self, alloc: Global, folder: &Folder, what: What) -> Result<(), PlanFault>
@@ -147,6 +148,7 @@ pub(crate) fn read_statements(
     };
     for statement in recipe.items {
         if let Err(fault) = reader.take(alloc, folder, statement.what) {
+            drop(reader);
             return Err(fault);
         }
     }

@@ -12,8 +12,8 @@ use Rattle.std.proofs.lemmas.Option.{cond_some, get_or_from_slice_get, slice_get
 use Rattle.cycle_walks.specs.Graph.{Rows, row, is_in, names}
 use Rattle.cycle_walks.specs.Walks.{IsWalk, Reaches}
 use Rattle.cycle_walks.proofs.Cycles.{Reaches-step}
-use Rattle.kc_expr.specs.Values.{Table as Values}
-use Rattle.mk_expand.specs.Words.{is_text}
+use Rattle.kc_values.specs.Values.{Table as Values}
+use Rattle.br_path.specs.Text.{is_text}
 use Rattle.recipe_set.specs.declared.packages.Made.{Made}
 use Rattle.selection.specs.declared.listed.Listed.{Listed}
 use Rattle.selection.specs.Chains.{place_of, if_host, host_place, host_places, listed, asked_place, asked_places, ArePlaces}

@@ -6,9 +6,9 @@ use Rattle.std.proofs.lemmas.Bool.{cases_Bool, false≢true, leb-true, leb-false
 use Rattle.std.proofs.lemmas.List.Elements.{Contains-append_left, Contains-append_right}
 use Rattle.std.proofs.lemmas.Option.{none-some, get_or_from_slice_get}
 use Rattle.br_path.specs.Files.{FileMap}
-use Rattle.kc_expr.specs.Values.{Table as Values}
+use Rattle.kc_values.specs.Values.{Table as Values}
 use Rattle.mk_expand.specs.Vars.{Table}
-use Rattle.mk_expand.specs.Words.{is_text}
+use Rattle.br_path.specs.Text.{is_text}
 use Rattle.recipe_set.specs.declared.fault.PlanFault.{PlanFault}
 use Rattle.recipe_set.specs.declared.fault.PlanFault.TheVariants.{Memory as no_memory, NoRecipe, TooManyPackages}
 use Rattle.recipe_set.specs.declared.packages.Made.{Made}
@@ -18,8 +18,7 @@ use Rattle.selection.specs.Names.{is_made, is_target}
 use Rattle.selection.specs.Each.{Each}
 use Rattle.selection.specs.Lists.{HasLists}
 use Rattle.selection.specs.Selected.{AreSelected, listed_by, has_name, listings, is_unknown, is_unselected, HaveHosts, AreClosed}
-use Rattle.selection.specs.Selecting.{IsChecked, IsLeast, IsSelecting, LacksRecipe, too_many, few, no_recipe, no_list}
-use Rattle.selection.specs.Selecting.{selected as is_selected}
+use Rattle.selection.specs.Selecting.{IsChecked, IsLeast, IsSelecting, LacksRecipe, too_many, few, no_recipe, no_list, selected as is_selected}
 use Rattle.selection.specs.Shown.{shown_listing}
 use Rattle.selection.proofs.ChainLaws.{some_at, within_place}
 use Rattle.selection.proofs.PlaceLaws.{any_place, place_any}

@@ -11,7 +11,7 @@ use Rattle.std.proofs.lemmas.Bool.{cases_eq, cases_lt, false≢true}
 use Rattle.std.proofs.lemmas.List.{get_or_default}
 use Rattle.std.proofs.lemmas.Map.Keys.{Less-from_sorted}
 use Rattle.br_path.specs.Files.{FileMap, IsFile, IsChild}
-use Rattle.kc_expr.specs.Values.{Table as Values}
+use Rattle.kc_values.specs.Values.{Table as Values}
 use Rattle.recipe_set.specs.declared.packages.Made.{Made}
 use Rattle.selection.specs.Names.{is_asked, is_target}
 use Rattle.selection.specs.Selecting.{LacksRecipe, IsLeast}

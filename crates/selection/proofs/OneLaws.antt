@@ -8,12 +8,11 @@ use Rattle.std.proofs.lemmas.Bool.{true≢false, false≢true}
 use Rattle.std.proofs.lemmas.Map.Keys.{sorted_tail}
 use Rattle.std.proofs.lemmas.Option.{none-some, same_Some}
 use Rattle.br_path.specs.Files.{FileMap}
-use Rattle.kc_expr.specs.Values.{Table as Values}
+use Rattle.kc_values.specs.Values.{Table as Values}
 use Rattle.mk_expand.specs.Vars.{Table, found}
 use Rattle.mk_expand.specs.Value.{depth_limit}
 use Rattle.mk_expand.specs.Words.{words}
-use Rattle.mk_expand.specs.Answer.{outside}
-use Rattle.mk_expand.specs.Answer.{OneAnswer}
+use Rattle.mk_expand.specs.Answer.{outside, OneAnswer}
 use Rattle.mk_expand.proofs.Exactness.{one_answer}
 use Rattle.recipe_set.specs.declared.fault.PlanFault.{PlanFault}
 use Rattle.recipe_set.specs.declared.fault.PlanFault.TheVariants.{NoRecipe, Expand, UnknownDependency, NotSelected}
@@ -21,8 +20,7 @@ use Rattle.recipe_set.specs.declared.packages.Made.{Made}
 use Rattle.recipe_set.specs.declared.recipes.Recipes.{Recipes}
 use Rattle.selection.specs.declared.listed.Listed.{Listed}
 use Rattle.selection.specs.Each.{Each, none_left, one_more, fails, later_fails}
-use Rattle.selection.specs.Lists.{HasList, HasDepends, HasExtract, HasPatch, HasLists, reference, value, own, derived, lists, no_depends, no_extract, no_patch}
-use Rattle.selection.specs.Lists.{fails as no_value}
+use Rattle.selection.specs.Lists.{HasList, HasDepends, HasExtract, HasPatch, HasLists, reference, value, own, derived, lists, no_depends, no_extract, no_patch, fails as no_value}
 use Rattle.selection.specs.Selected.{AreSelected, names_of, listings, is_unknown, is_unselected}
 use Rattle.selection.specs.Selecting.{LacksRecipe, IsLeast, IsChecked, IsSelecting, unknown, not_selected, too_many, few, no_recipe, no_list, selected}
 use Rattle.selection.proofs.TextLaws.{cmp, same_by, apart_by, key_below}

@@ -7,8 +7,8 @@ use Rattle.std.proofs.lemmas.List.{length-map, get_or-map}
 use Rattle.std.proofs.lemmas.List.Elements.{Contains-get_or, Contains-append_cases, Contains-append_left, Contains-append_right}
 use Rattle.std.proofs.lemmas.Map.Keys.{sorted_from_all_adjacent, Less-from_sorted}
 use Rattle.std.proofs.lemmas.Option.{get_or_from_slice_get}
-use Rattle.kc_expr.specs.Values.{Table as Values}
-use Rattle.mk_expand.specs.Words.{is_text}
+use Rattle.kc_values.specs.Values.{Table as Values}
+use Rattle.br_path.specs.Text.{is_text}
 use Rattle.recipe_set.specs.declared.packages.Made.{Made}
 use Rattle.selection.specs.declared.listed.Listed.{Listed}
 use Rattle.selection.specs.Chains.{ArePlaces, picked}

@@ -8,7 +8,7 @@ use Rattle.std.proofs.lemmas.Bool.{cases_Bool, cases_lt, lt-ltb, le-ltb, falseâ‰
 use Rattle.std.proofs.lemmas.List.Quantifiers.{position-Some}
 use Rattle.std.proofs.lemmas.List.Sorted.{searchable_from_sorted}
 use Rattle.std.proofs.lemmas.List.Sums.{position_or_len_is}
-use Rattle.mk_expand.specs.Words.{is_text}
+use Rattle.br_path.specs.Text.{is_text}
 use Rattle.selection.proofs.TextLaws.{cmp, same_text, text_same, other_text, apart_by, same_by, sorted_by_key, one_place}
 
 module _ {X : Type 0} (test : X â†’ Bool) (xs : List X) where

@@ -5,7 +5,7 @@ use Rattle.std.proofs.lemmas.List.{get_or-set_same, get_or-set_other, length-set
 use Rattle.std.proofs.lemmas.List.Concat.{flat_map-append}
 use Rattle.std.proofs.lemmas.Option.{same_Some}
 use Rattle.cycle_walks.specs.Graph.{Rows, row}
-use Rattle.kc_expr.specs.Values.{Table as Values}
+use Rattle.kc_values.specs.Values.{Table as Values}
 use Rattle.recipe_set.specs.declared.packages.Made.{Made}
 use Rattle.selection.specs.declared.listed.Listed.{Listed}
 use Rattle.selection.specs.Chains.{named, listed, host_place, host_places, asked_place, asked_places}

@@ -3,7 +3,7 @@ use Rattle.std.proofs.Common.{ℕ, ◌≡◌, Bool, true, false, cond, ◌||◌,
 use Rattle.std.specs.List.{list_any}
 use Rattle.std.proofs.lemmas.List.{map-append}
 use Rattle.indexmap.specs.IndexSet.{insert_key}
-use Rattle.mk_expand.specs.Words.{is_text}
+use Rattle.br_path.specs.Text.{is_text}
 use Rattle.selection.specs.Lists.{put_word}
 
 module _ {K : Type 0} (shown : K → List ℕ) where

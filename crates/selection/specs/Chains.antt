@@ -2,8 +2,8 @@
 use Rattle.std.specs.Prelude.{◌≡◌, ℕ, ◌+◌, ◌<◌, ◌↔◌, false, List, [], ◌∷◌, ◌++◌, length, flat_map, position, Option, None, Some, slice_get, slice_set, option_to_list, Contains, if◌then◌else◌}
 use Rattle.std.specs.Option.{option_map_or}
 use Rattle.cycle_walks.specs.Graph.{Rows, row}
-use Rattle.kc_expr.specs.Values.{Table as Values}
-use Rattle.mk_expand.specs.Words.{is_text}
+use Rattle.kc_values.specs.Values.{Table as Values}
+use Rattle.br_path.specs.Text.{is_text}
 use Rattle.recipe_set.specs.declared.packages.Made.{Made}
 use Rattle.selection.specs.declared.listed.Listed.{Listed}
 use Rattle.selection.specs.Names.{is_asked}

@@ -2,7 +2,8 @@
 use Rattle.std.specs.Prelude.{◌≡◌, ℕ, ◌&&◌, ◌||◌, ◌-◌, not, nat_eq, Bool, true, false, List, [], ◌∷◌, ◌++◌, map, fold, filter, is_some, Result, Ok, Err, codes, length, slice_index_or, if◌then◌else◌}
 use Rattle.std.specs.List.{list_any, starts_with}
 use Rattle.mk_expand.specs.declared.fault.ExpandFault.{ExpandFault}
-use Rattle.mk_expand.specs.Words.{is_text, words}
+use Rattle.mk_expand.specs.Words.{words}
+use Rattle.br_path.specs.Text.{is_text}
 use Rattle.mk_expand.specs.Vars.{Table, found}
 use Rattle.mk_expand.specs.Value.{depth_limit}
 use Rattle.mk_expand.specs.Answer.{IsValue, IsFault, outside}

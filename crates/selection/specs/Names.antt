@@ -4,10 +4,8 @@ use Rattle.std.specs.List.{list_any}
 use Rattle.std.specs.List.Sorted.{IsStrictlySortedBy}
 use Rattle.std.specs.Ordering.{nat_cmp}
 use Rattle.std.specs.Cmp.Lexicographic.{slice_cmp}
-use Rattle.kc_expr.specs.Holds.{is_yes}
-use Rattle.kc_expr.specs.Values.{find}
-use Rattle.kc_expr.specs.Values.{Table as Values}
-use Rattle.mk_expand.specs.Words.{is_text}
+use Rattle.kc_values.specs.Values.{is_yes, find, Table as Values}
+use Rattle.br_path.specs.Text.{is_text}
 use Rattle.recipe_set.specs.declared.packages.Made.{Made}
 use Rattle.recipe_set.specs.Names.{upper_form}
 

@@ -1,8 +1,8 @@
 -- Selected packages: those to which a chain of lists leads from a package that is asked for.
 use Rattle.std.specs.Prelude.{ℕ, ◌≤◌, ◌↔◌, ◌&&◌, not, Bool, IsTrue, List, ◌++◌, length, map, flat_map, Contains}
 use Rattle.std.specs.List.{list_any}
-use Rattle.kc_expr.specs.Values.{Table as Values}
-use Rattle.mk_expand.specs.Words.{is_text}
+use Rattle.kc_values.specs.Values.{Table as Values}
+use Rattle.br_path.specs.Text.{is_text}
 use Rattle.recipe_set.specs.declared.packages.Made.{Made}
 use Rattle.selection.specs.declared.listed.Listed.{Listed}
 use Rattle.selection.specs.Names.{is_asked, is_made, is_target, AreRising}

@@ -4,7 +4,7 @@ use Rattle.std.specs.List.{find}
 use Rattle.std.specs.Ordering.{nat_cmp, is_le}
 use Rattle.std.specs.Cmp.Lexicographic.{slice_cmp}
 use Rattle.br_path.specs.Files.{FileMap, IsFile}
-use Rattle.kc_expr.specs.Values.{Table as Values}
+use Rattle.kc_values.specs.Values.{Table as Values}
 use Rattle.recipe_set.specs.declared.fault.PlanFault.{PlanFault}
 use Rattle.recipe_set.specs.declared.fault.PlanFault.TheVariants.{NoRecipe, UnknownDependency, NotSelected, TooManyPackages}
 use Rattle.recipe_set.specs.declared.packages.Made.{Made}

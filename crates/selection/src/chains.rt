@@ -14,7 +14,7 @@ use crate::names::is_asked;
 use crate::places::host_place;
 use br_path::{Memory, Names, Numbers};
 use cycle_walks::{Graph, reached};
-use kc_expr::Values;
+use kc_values::Values;
 use recipe_set::Made;
 use std::alloc::Global;
 

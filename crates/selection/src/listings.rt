@@ -14,7 +14,7 @@ use std::alloc::Global;
 use std::marker::Model;
 
 /// The names that packages list, one after another, each behind the name of its package.
-#[derive(Debug, Drop)]
+#[derive(Drop)]
 pub(crate) struct Listings<'a> {
     items: Vec<(&'a Bytes, &'a Bytes)>,
 }

@@ -8,7 +8,7 @@ ghost use Rattle.selection.specs.Selecting.{LacksRecipe, IsLeast};
 use crate::names::is_asked;
 use crate::places::is_target;
 use br_path::{Bytes, Files, Memory, Path};
-use kc_expr::Values;
+use kc_values::Values;
 use recipe_set::Made;
 use std::alloc::Global;
 

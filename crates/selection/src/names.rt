@@ -1,13 +1,11 @@
 //! What names of packages stand for: their variables and their symbols.
 ghost use Rattle.std.specs.Prelude.{◌≡◌, ◌++◌, IfOk, codes};
-ghost use Rattle.std.specs.Option.{option_copied};
-ghost use Rattle.kc_expr.specs.Holds.{is_yes};
-ghost use Rattle.mk_expand.specs.Words.{is_text};
+ghost use Rattle.br_path.specs.Text.{is_text};
 ghost use Rattle.recipe_set.specs.Names.{upper_form};
 ghost use Rattle.selection.specs.Names.{is_asked};
 
 use br_path::{Bytes, Memory};
-use kc_expr::{Kind, Valued, Values};
+use kc_values::Values;
 use recipe_set::upper_form;
 use std::alloc::Global;
 
@@ -25,7 +23,7 @@ pub(crate) fn is_asked(alloc: Global, values: &Values, name: &[u8]) -> Result<bo
     ensures { IfOk result (λ asked. asked ≡ is_asked values.now name.now) }
 {
     let symbol = symbol(alloc, name)?;
-    Ok(is_yes(values.find(symbol.as_slice())))
+    Ok(values.is_yes(symbol.as_slice()))
 }
 
 /// The symbol of a package.
@@ -36,16 +34,6 @@ fn symbol(alloc: Global, name: &[u8]) -> Result<Bytes, Memory>
     let mut text = Bytes::from_slice(alloc, b"BR2_PACKAGE_")?;
     text.items.extend_from_slice(form.as_slice())?;
     Ok(text)
-}
-
-/// Whether it is a bool that is y.
-fn is_yes(found: Option<&Valued>) -> bool
-    ensures { result ≡ is_yes (option_copied found.entry) }
-{
-    match found {
-        Some(valued) => valued.kind == Kind::Bool && is_same(valued.text.as_slice(), b"y"),
-        None => false,
-    }
 }
 
 /// Whether two texts are the same.

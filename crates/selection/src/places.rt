@@ -1,6 +1,6 @@
 //! Packages by their names.
 ghost use Rattle.std.specs.Prelude.{◌≡◌, ◌<◌, IfSome, length, map, position};
-ghost use Rattle.mk_expand.specs.Words.{is_text};
+ghost use Rattle.br_path.specs.Text.{is_text};
 ghost use Rattle.selection.specs.Chains.{place_of, host_place};
 ghost use Rattle.selection.specs.Names.{AreRising, is_made, is_target};
 ghost use Rattle.selection.specs.Selected.{has_name, names_of};

@@ -2,8 +2,8 @@
 ghost use Rattle.std.specs.Prelude.{List, ℕ, ◌≡◌, ◌≢◌, None, Result, Ok, Err, IfOk, IfErr, OnOk, length, map, nat_le, position, if◌then◌else◌};
 ghost use Rattle.std.specs.List.{find};
 ghost use Rattle.br_path.specs.Files.{FileMap};
-ghost use Rattle.kc_expr.specs.Values.{Table};
-ghost use Rattle.mk_expand.specs.Words.{is_text};
+ghost use Rattle.kc_values.specs.Values.{Table};
+ghost use Rattle.br_path.specs.Text.{is_text};
 ghost use Rattle.recipe_set.specs.declared.fault.PlanFault.{PlanFault as FaultValue};
 ghost use Rattle.recipe_set.specs.declared.fault.PlanFault.TheVariants.{Memory as no_memory, NoRecipe as no_recipe, TooManyPackages as too_many};
 ghost use Rattle.recipe_set.specs.declared.recipes.Recipes.{Recipes as RecipesValue};
@@ -18,8 +18,8 @@ use crate::listings::{Listings, first_unknown, first_unselected};
 use crate::lists::all_lists;
 use crate::missing::least_without_recipe;
 use crate::places::listed_place;
-use br_path::Files;
-use kc_expr::Values;
+use br_path::{Bytes, Files, Memory};
+use kc_values::Values;
 use recipe_set::{Made, PlanFault, Recipes};
 use std::alloc::Global;
 use std::marker::Model;
@@ -120,12 +120,21 @@ fn check_lists(alloc: Global, made: &[Made], chosen: &[Listed]) -> Result<(), Pl
 {
     let listings = Listings::of(alloc, chosen)?;
     if let Some((owner, name)) = first_unknown(made, listings.as_slice()) {
-        return Err(PlanFault::UnknownDependency(owner.copy()?, name.copy()?));
+        let listing = copies(owner, name)?;
+        return Err(PlanFault::UnknownDependency(listing.0, listing.1));
     }
     if let Some((owner, name)) = first_unselected(made, chosen, listings.as_slice()) {
-        return Err(PlanFault::NotSelected(owner.copy()?, name.copy()?));
+        let listing = copies(owner, name)?;
+        return Err(PlanFault::NotSelected(listing.0, listing.1));
     }
     Ok(())
+}
+
+/// The name of a package and a name that it lists, once more.
+fn copies(owner: &Bytes, name: &Bytes) -> Result<(Bytes, Bytes), Memory>
+    ensures { IfOk result (λ listing. (listing.0 ≡ owner.now) × (listing.1 ≡ name.now)) }
+{
+    Ok((owner.copy()?, name.copy()?))
 }
 
 /// Refuses more than 256 packages.

@@ -1,5 +1,5 @@
 use Rattle.std.proofs.Common.{◌+◌}
-use Rattle.tree_map.specs.MapTree.{shown}
+use Rattle.first_tree.specs.MapTree.{shown}
 use Rattle.br_run.specs.Root.{HasFolders}
 use Rattle.br_run.proofs.Changes.{made_so, only_memory}
 use Rattle.br_run.proofs.Folders.{HasFolders-made}

@@ -1,4 +1,4 @@
-use Rattle.tree_map.specs.MapTree.{shown}
+use Rattle.first_tree.specs.MapTree.{shown}
 use Rattle.br_run.specs.Root.{HasRoot}
 use Rattle.br_run.proofs.Changes.{made_so, only_memory}
 use Rattle.br_run.proofs.Places.{changed-place, HasRoot-place}

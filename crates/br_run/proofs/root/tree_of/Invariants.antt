@@ -1,4 +1,4 @@
-use Rattle.tree_map.specs.MapTree.{shown}
+use Rattle.first_tree.specs.MapTree.{shown}
 use Rattle.br_run.specs.Root.{HasFolders}
 use Rattle.br_run.proofs.root.tree_of.Given as goal
 

@@ -1,7 +1,7 @@
 use Rattle.std.proofs.Common.{◌≡◌, ◌+◌, ◌≤◌, ◌++◌, length, drop, Some, sym, ap, ◌∙◌, arith}
 use Rattle.std.specs.List.{slice_get}
 use Rattle.std.specs.Option.{option_map}
-use Rattle.kc_expr.specs.Values.{named}
+use Rattle.kc_values.specs.Values.{named}
 use Rattle.kc_menu.specs.Visible.{is_visible}
 use Rattle.dot_config.specs.Writing.{line_of, wish_for}
 use Rattle.dot_config.proofs.Texts.{rest_text, text_more, text_all}

@@ -1,5 +1,5 @@
 use Rattle.std.proofs.Common.{◌≡◌, drop, fold}
-use Rattle.kc_expr.specs.Values.{find as valued}
+use Rattle.kc_values.specs.Values.{find as valued}
 use Rattle.kc_solve.specs.Filled.{put_valued, in_order}
 use Rattle.kc_solve.proofs.fill.in_order.Given as goal
 

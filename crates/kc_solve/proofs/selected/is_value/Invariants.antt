@@ -1,6 +1,6 @@
 use Rattle.std.proofs.Common.{◌≡◌, drop, not}
 use Rattle.std.specs.List.{list_any}
-use Rattle.kc_expr.specs.Holds.{is_bool}
+use Rattle.kc_values.specs.Values.{is_bool}
 use Rattle.kc_equations.specs.Behind.{behind}
 use Rattle.kc_solve.proofs.selected.is_value.Given as goal
 

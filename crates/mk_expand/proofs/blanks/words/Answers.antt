@@ -1,14 +1,13 @@
-use Rattle.std.proofs.Common.{rules, ap, ◌∙◌}
+use Rattle.std.proofs.Common.{rules, Ok}
 use borrow.Author.Tests.{tests}
-use Rattle.std.specs.Prelude.{filter}
-use Rattle.std.proofs.lemmas.Iterator.Consumers.{YieldsList-end}
+use Rattle.std.proofs.lemmas.Iterator.Consumers.{YieldsList-at, YieldsList-from_filter, map_from_collect}
 use Rattle.std.proofs.lemmas.Iterator.Splits.{YieldsList-from_slice_split}
 use Rattle.mk_expand.specs.Words.{is_white, is_filled}
 use Rattle.mk_expand.proofs.blanks.words.Goals as goal
 
 pub returns : goal.returns
 returns c =
-    c.loop-word.invariant
-    ∙ ap (filter is_filled)
-    (YieldsList-end (YieldsList-from_slice_split {s = c.into_iter-word-iterator.result} _ is_white c.args.text.now (search rules) (search rules) (search rules) (λ x r q k. search (rules, tests)))
-    c.loop-word.yielded _ c.loop-word.yielded_by _ _ c.in-None.is c.next.ensures.steps).0
+    map_from_collect {E = Unit {0}} (Ok c.in_ok-collect.field-0) c.in_ok-collect.ensures.ran
+    (YieldsList-from_filter {s = c.filter.result} _ is_filled
+    (YieldsList-at c.filter.ensures.source (YieldsList-from_slice_split {s = c.split.result} _ is_white c.args.text.now (search rules) (search rules) (search rules) (λ x r q k. search (rules, tests))))
+    (search rules) (λ x r q k. search (rules, tests)))

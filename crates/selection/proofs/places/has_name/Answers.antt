@@ -1,6 +1,6 @@
 use Rattle.std.proofs.Common.{◌≡◌, is_some, rules, sym, ◌∙◌}
 use Rattle.std.specs.List.{position}
-use Rattle.mk_expand.specs.Words.{is_text}
+use Rattle.br_path.specs.Text.{is_text}
 use Rattle.selection.proofs.PlaceLaws.{among}
 use Rattle.selection.proofs.places.has_name.Goals as goal
 

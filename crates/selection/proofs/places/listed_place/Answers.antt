@@ -1,7 +1,7 @@
 use Rattle.std.proofs.Common.{◌≡◌, Ordering, rules, subst}
 use Rattle.std.proofs.lemmas.Fn.{always_returns_same}
 use Rattle.std.specs.List.{position}
-use Rattle.mk_expand.specs.Words.{is_text}
+use Rattle.br_path.specs.Text.{is_text}
 use Rattle.selection.specs.declared.listed.Listed.{Listed}
 use Rattle.selection.proofs.PlaceLaws.{place_in, searched}
 use Rattle.selection.proofs.TextLaws.{cmp}

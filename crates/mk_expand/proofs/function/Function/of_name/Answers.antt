@@ -1,6 +1,6 @@
 use Rattle.std.proofs.Common.{◌≡◌, false, get_or, sym, ◌∙◌, ap}
 use Rattle.mk_expand.specs.declared.function.Function.TheVariants.{Subst}
-use Rattle.mk_expand.specs.Words.{is_text}
+use Rattle.br_path.specs.Text.{is_text}
 use Rattle.mk_expand.specs.Table.{entry, functions}
 use Rattle.mk_expand.proofs.Finding.{find_past}
 use Rattle.mk_expand.proofs.function.Function.of_name.Goals as goal

@@ -1,6 +1,6 @@
 use Rattle.std.proofs.Common.{◌≡◌, drop}
 use Rattle.std.specs.Prelude.{find}
-use Rattle.mk_expand.specs.Words.{is_text}
+use Rattle.br_path.specs.Text.{is_text}
 use Rattle.mk_expand.specs.Table.{entry, function_of}
 use Rattle.mk_expand.proofs.function.Function.of_name.Given as goal
 

@@ -1,7 +1,7 @@
 use Rattle.std.proofs.Common.{◌≡◌, List, ℕ, OnOk, rules, ap, sym, subst, ◌∙◌, map, false}
 use Rattle.std.specs.Map.{set_value}
 use Rattle.std.proofs.lemmas.Map.Steps.{set_value_same}
-use Rattle.mk_expand.specs.Words.{is_text}
+use Rattle.br_path.specs.Text.{is_text}
 use Rattle.mk_expand.specs.Vars.{Table, put, appended}
 use Rattle.mk_expand.proofs.Tables.{appended_found, appended_unset}
 use Rattle.mk_expand.proofs.vars.Vars.append.Goals as goal

@@ -1,5 +1,5 @@
 use Rattle.std.proofs.Common.{sym, ◌∙◌}
-use Rattle.mk_expand.specs.Words.{is_text}
+use Rattle.br_path.specs.Text.{is_text}
 use Rattle.mk_expand.proofs.Tables.{lookup-map}
 use Rattle.mk_expand.proofs.vars.Vars.find.Goals as goal
 

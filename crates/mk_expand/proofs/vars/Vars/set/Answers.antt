@@ -1,5 +1,5 @@
 use Rattle.std.proofs.Common.{sym, ◌∙◌, ap, map}
-use Rattle.mk_expand.specs.Words.{is_text}
+use Rattle.br_path.specs.Text.{is_text}
 use Rattle.mk_expand.proofs.Tables.{insert-map}
 use Rattle.mk_expand.proofs.vars.Vars.set.Goals as goal
 

@@ -1,5 +1,0 @@
-use Rattle.kc_expr.proofs.Tables.{table_new}
-use Rattle.kc_expr.proofs.values.Values.new.Goals as goal
-
-pub invariant_of-result : goal.invariant_of-result
-invariant_of-result c = table_new (λ k. k.items) c.new.result.entries c.new.ensures.empty
