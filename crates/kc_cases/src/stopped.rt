@@ -1,0 +1,44 @@
+//! Why the program ends before its input does.
+use br_path::{AddFault, Memory, PathFault};
+use std::alloc::{AllocError, AllocFailed};
+use std::io;
+
+/// A line that isn't understood, a stream that fails, or out of memory.
+#[derive(Clone, Copy)]
+pub(crate) struct Stopped;
+
+impl From<io::Error> for Stopped {
+    fn from(_error: io::Error) -> Stopped {
+        Stopped
+    }
+}
+
+impl From<Memory> for Stopped {
+    fn from(_error: Memory) -> Stopped {
+        Stopped
+    }
+}
+
+impl From<AllocError> for Stopped {
+    fn from(_error: AllocError) -> Stopped {
+        Stopped
+    }
+}
+
+impl<T: Drop> From<AllocFailed<T>> for Stopped {
+    fn from(_error: AllocFailed<T>) -> Stopped {
+        Stopped
+    }
+}
+
+impl From<PathFault> for Stopped {
+    fn from(_fault: PathFault) -> Stopped {
+        Stopped
+    }
+}
+
+impl From<AddFault> for Stopped {
+    fn from(_fault: AddFault) -> Stopped {
+        Stopped
+    }
+}
