@@ -1,0 +1,12 @@
+pub mod Undone
+pub mod Values
+pub mod Made
+pub mod Built
+pub mod Moves
+pub mod Listed
+pub mod Renamed
+pub mod Modes
+pub mod Below
+pub mod Sealed
+pub mod Neighbours
+pub mod Children

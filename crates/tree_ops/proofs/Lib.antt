@@ -1,0 +1,16 @@
+pub mod Lengths
+pub mod Orders
+pub mod Inserts
+pub mod Outcomes
+pub mod Counts
+pub mod Changed
+pub mod Foreign
+pub mod Finds
+pub mod Heads
+pub mod Sound
+pub mod Faults
+pub mod Growing
+pub mod Moving
+pub mod Laying
+pub mod Kept
+pub mod Walks

@@ -1,0 +1,6 @@
+pub mod Tree
+pub mod Pen
+pub mod Change
+pub mod Walk
+pub mod Held
+pub mod Walking
