@@ -1,0 +1,5 @@
+pub mod Judging
+pub mod TaskBits
+pub mod Turns
+pub mod Waits
+pub mod Yards

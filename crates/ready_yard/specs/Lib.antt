@@ -1,0 +1,4 @@
+pub mod History
+pub mod Judged
+pub mod Kept
+pub mod TaskBits
