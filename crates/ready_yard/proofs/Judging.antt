@@ -19,7 +19,7 @@ bad_is g n h (Start w t) WorkerBusy bad may = not_some bad.0 (sym may.2 ∙ bad.
 bad_is g n h (Start w t) NoSuchTask bad may = let lt = (ready_parts g h t may.3.ready).0 in omega (arith, bad, lt)
 bad_is g n h (Start w t) StartedTwice bad may = true_is_not (sym bad ∙ (ready_parts g h t may.3.ready).1)
 bad_is g n h (Start w t) NeedNotEnded bad may = true_is_not (sym (ready_parts g h t may.3.ready).2 ∙ bad)
-bad_is g n h (Start w t) NotLeast bad may = true_is_not (sym bad.2 ∙ may.3.least bad.0 bad.1)
+bad_is g n h (Start w t) NotLeast bad may = true_is_not (sym bad.1.2 ∙ may.3.least bad.1.0 bad.1.1)
 bad_is g n h (Start w t) NotRunning bad may = bad
 bad_is g n h (End w t) NotRunning bad may = bad may
 bad_is g n h (End w t) NoSuchWorker bad may = bad

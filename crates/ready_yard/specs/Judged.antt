@@ -17,7 +17,7 @@ IsBadStart g n h w t WorkerBusy = (k : ℕ) × (runs h w ≡ Some k)
 IsBadStart g n h w t NoSuchTask = length g ≤ t
 IsBadStart g n h w t StartedTwice = started h t ≡ true
 IsBadStart g n h w t NeedNotEnded = list_all (ended h) (needs_of g t) ≡ false
-IsBadStart g n h w t NotLeast = (k : ℕ) × (k < t) × (is_ready g h k ≡ true)
+IsBadStart g n h w t NotLeast = (is_ready g h t ≡ true) × ((k : ℕ) × (k < t) × (is_ready g h k ≡ true))
 IsBadStart g n h w t NotRunning = ⊥
 
 -- why the end of a task may not

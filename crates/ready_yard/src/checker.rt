@@ -32,7 +32,7 @@ pub enum Why {
     StartedTwice,
     /// A need of the task has not ended.
     NeedNotEnded,
-    /// A lower task is ready.
+    /// The task is ready, and so is a lower one.
     NotLeast,
     /// A worker ends a task that it doesn't run.
     NotRunning,

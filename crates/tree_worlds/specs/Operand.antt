@@ -64,9 +64,10 @@ abbrev pub in_readable : Option ℕ → List ℕ → Named
 in_readable None walk = Err (for_change Outside)
 in_readable (Some task) walk = Ok (Readable task walk)
 
--- below `output/build`: the task's own package, or, in a prep task, a patch dependency
+-- below `output/build`: the task's own package, or, in a prep task, a patch dependency; `output/build` alone is no place
 abbrev pub in_build : WorldData → List ℕ → Named
 in_build world text =
+    if not (is_filled (first_of text)) then Err (for_change Outside) else
     if is_text (first_of text) world.owner then Ok (Place Build (behind text)) else
     if world.prep then in_readable (readable_of world.shown (first_of text)) (behind text) else Err (for_change Outside)
 

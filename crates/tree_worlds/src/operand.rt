@@ -85,6 +85,9 @@ impl<T: TreeOps> World<T> {
         ensures { Gives no_memory (told (in_build (world_data T.tree self.now) text.now)) result }
     {
         let (name, rest) = cut(text);
+        if name.is_empty() {
+            return Err(error_of(ChangeFault::Outside));
+        }
         if is_text(name, self.package.as_slice()) {
             return in_area(alloc, Some(Area::Build), rest);
         }
