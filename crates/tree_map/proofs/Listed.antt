@@ -14,7 +14,7 @@ use Rattle.br_path.proofs.Maps.{entries-of}
 use Rattle.br_path.proofs.Paths.{names_decide}
 use Rattle.br_path.proofs.PathOrder.{path_total, path_same}
 use Rattle.tree_ops.specs.declared.entry.Node.{Node}
-use Rattle.tree_ops.specs.declared.pen.Pen.{Pen}
+use Rattle.tree_ops.specs.Pen.{Counts}
 use Rattle.tree_ops.specs.Tree.{Tree, laid}
 use Rattle.tree_ops.specs.Change.{is_path, moved, moved_path, recounted, counted_anew}
 use Rattle.tree_ops.proofs.Finds.{find-both, get-laid, get-kept}
@@ -73,7 +73,7 @@ moved-listed m old at ordered =
     ap made ((λ i. where_key path_cmp (λ path. not (path_tests at path i)) m.entries)
     ∙ ap (where_key path_cmp (λ path. not (eq_by_cmp path_cmp at path))) (sym (entries-of path_total m ordered)) ∙ sym (entries-removed path_total path_same (names_of m) at))
 
-pub counted-anew : (pen : Pen) (old new : Tree) (m n : BTreeMap Names Node) → old.names ≡ names_of m → new.names ≡ names_of n → IsOrdered path_cmp m → IsOrdered path_cmp n
+pub counted-anew : (pen : Counts) (old new : Tree) (m n : BTreeMap Names Node) → old.names ≡ names_of m → new.names ≡ names_of n → IsOrdered path_cmp m → IsOrdered path_cmp n
     → counted_anew pen (measure m.entries) (measure n.entries) ≡ recounted pen old new
 counted-anew pen old new m n was is before after =
     let first : fin.entries old.names ≡ m.entries = ap fin.entries was ∙ entries-of path_total m before in

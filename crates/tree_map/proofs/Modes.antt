@@ -11,12 +11,12 @@ use Rattle.tree_ops.specs.declared.entry.Node.{Node}
 use Rattle.tree_ops.specs.declared.entry.Node.TheVariants.{Dir, Link, File}
 use Rattle.tree_ops.specs.declared.pen.Pen.{Pen}
 use Rattle.tree_ops.specs.Tree.{Tree, node_at, is_dir}
-use Rattle.tree_ops.specs.Pen.{within_limits}
-use Rattle.tree_ops.specs.Change.{SetMode, State, changed, tree_after, pen_after, mode_fault, mode_set, drawn, spent, is_foreign, count_if, size_at, recounted}
+use Rattle.tree_ops.specs.Pen.{Counts, counts_of, with_counts, within_limits}
+use Rattle.tree_ops.specs.Change.{SetMode, State, seen, IsChange, tree_after, pen_after, mode_fault, mode_set, drawn, spent, is_foreign, count_if, size_at, recounted}
 use Rattle.tree_ops.proofs.Counts.{recounted-same, get-remove_same, insert-remove}
 use Rattle.tree_ops.proofs.Inserts.{sum_by-entries_insert, len-insert_new}
-use Rattle.tree_ops.proofs.Changed.{changed-ok, changed-full}
-use Rattle.tree_map.specs.Parts.{with_name}
+use Rattle.tree_ops.proofs.Changed.{IsChange-ok, IsChange-full}
+use Rattle.tree_map.specs.Parts.{with_name, uncounted}
 use Rattle.tree_map.proofs.Made.{uncharged}
 
 cond-cond : {A : Type 0} (b : Bool) (x y z : A) → cond b x (cond b y z) ≡ cond b x z
@@ -35,7 +35,7 @@ insert-again m at node = fin.same_map path_total path_same _ _ (λ q.
     fin.get-insert path_total m at node q
     ∙ sym (fin.get-insert path_total (fin.remove m at) at node q ∙ ap (cond (eq_by_cmp path_cmp q at) (Some node)) (fin.get-remove path_total m at q) ∙ cond-cond (eq_by_cmp path_cmp q at) (Some node) None (fin.get m q)))
 
-recounted-again : (pen : Pen) (old : Tree) (at : Names) (was node : Node) → fin.get old.names at ≡ Some was → recounted pen old (with_name old at node) ≡ pen
+recounted-again : (pen : Counts) (old : Tree) (at : Names) (was node : Node) → fin.get old.names at ≡ Some was → recounted pen old (with_name old at node) ≡ pen
 recounted-again pen old at was node there =
     let left = fin.remove old.names at in
     let none = get-remove_same path_total path_same old.names at in
@@ -55,12 +55,12 @@ dir-pen old at mode was there =
     let spends : spent (SetMode at mode) old ≡ 0 = ap (λ node. count_if (is_foreign old.1 node) (size_at old.0 node)) there in
     (λ i. record (kept i) { next = old.1.next + draws i; bytes = old.1.bytes + spends i }) ∙ uncharged old.1
 
-pub dir_mode-ok : (old : State) (at : Names) (mode : ℕ) (new : Tree) (after : Pen) → is_dir (node_at old.0 at) ≡ true → within_limits old.1 ≡ Some after → new ≡ with_name old.0 at (Dir mode) → changed (SetMode at mode) old ≡ Ok (new, after)
+pub dir_mode-ok : (old : Tree × Pen) (at : Names) (mode : ℕ) (new : Tree) (after : Pen) → is_dir (node_at old.0 at) ≡ true → within_limits (with_counts old.1 (counts_of old.1)) ≡ Some after → new ≡ with_name old.0 at (Dir mode) → IsChange uncounted (SetMode at mode) old (Ok tt) (new, after)
 dir_mode-ok old at mode new after dir fits made =
     let there = dir_there (node_at old.0 at) dir in
-    changed-ok (SetMode at mode) old new old.1 after (ap mode_fault there.1) (dir-pen old at mode there.0 there.1) (dir-tree old at mode there.0 there.1 ∙ sym made) fits
+    IsChange-ok uncounted (SetMode at mode) old new (counts_of old.1) after refl (ap mode_fault there.1) (dir-pen (seen old) at mode there.0 there.1) (dir-tree (seen old) at mode there.0 there.1 ∙ sym made) fits
 
-pub dir_mode-full : (old : State) (at : Names) (mode : ℕ) → is_dir (node_at old.0 at) ≡ true → within_limits old.1 ≡ None → changed (SetMode at mode) old ≡ Err NoSpace
+pub dir_mode-full : (old : Tree × Pen) (at : Names) (mode : ℕ) → is_dir (node_at old.0 at) ≡ true → within_limits (with_counts old.1 (counts_of old.1)) ≡ None → IsChange uncounted (SetMode at mode) old (Err NoSpace) old
 dir_mode-full old at mode dir full =
     let there = dir_there (node_at old.0 at) dir in
-    changed-full (SetMode at mode) old (with_name old.0 at (Dir mode)) old.1 (ap mode_fault there.1) (dir-pen old at mode there.0 there.1) (dir-tree old at mode there.0 there.1) full
+    IsChange-full uncounted (SetMode at mode) old (with_name old.0 at (Dir mode)) (counts_of old.1) (ap mode_fault there.1) (dir-pen (seen old) at mode there.0 there.1) (dir-tree (seen old) at mode there.0 there.1) full

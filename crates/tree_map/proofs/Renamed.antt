@@ -6,11 +6,11 @@ use Rattle.tree_ops.specs.declared.change.ChangeFault.{ChangeFault}
 use Rattle.tree_ops.specs.declared.change.ChangeFault.TheVariants.{NoSpace, TooLong, Memory, Outside, Absent, Loop}
 use Rattle.tree_ops.specs.declared.pen.Pen.{Pen}
 use Rattle.tree_ops.specs.Tree.{Tree, node_at}
-use Rattle.tree_ops.specs.Pen.{within_limits}
-use Rattle.tree_ops.specs.Change.{Rename, State, changed, fault_of, tree_after, pen_after, fault_if, is_path, moved, label_of, dropped_unused, recounted, grows_too_long, is_below, parent_fault, replace_fault, IsChange}
+use Rattle.tree_ops.specs.Pen.{Counts, counts_of, with_counts, within_limits}
+use Rattle.tree_ops.specs.Change.{Rename, State, seen, IsChange, fault_of, tree_after, pen_after, fault_if, is_path, moved, label_of, dropped_unused, recounted, grows_too_long, is_below, parent_fault, replace_fault}
 use Rattle.tree_ops.proofs.Counts.{recounted-same}
-use Rattle.tree_ops.proofs.Changed.{changed-ok, changed-full, changed-refused}
-use Rattle.tree_map.specs.Parts.{faults_in_turn, move_fault}
+use Rattle.tree_ops.proofs.Changed.{IsChange-ok, IsChange-full, changed-refused}
+use Rattle.tree_map.specs.Parts.{faults_in_turn, move_fault, uncounted}
 use Rattle.tree_map.proofs.Made.{uncharged}
 
 in_turn-refused : (a b : Option ChangeFault) (same : Bool) (c d e last : Option ChangeFault) (fault : ChangeFault) → faults_in_turn a b same c d e None ≡ Some fault → faults_in_turn a b same c d e last ≡ Some fault
@@ -68,13 +68,13 @@ unmoved-pen old first at same =
     let counted = ap (recounted old.1 old.0) (pen-same old first at same) ∙ recounted-same old.1 old.0 old.0 refl refl in
     (λ i. record (counted i) { next = old.1.next + 0; bytes = old.1.bytes + 0 }) ∙ uncharged old.1
 
-pub unmoved-ok : (old : State) (first at : Names) (after : Pen) → move_fault old.0 first at None ≡ None → is_path first at ≡ true → within_limits old.1 ≡ Some after → changed (Rename first at) old ≡ Ok (old.0, after)
+pub unmoved-ok : (old : Tree × Pen) (first at : Names) (after : Pen) → move_fault old.0 first at None ≡ None → is_path first at ≡ true → within_limits (with_counts old.1 (counts_of old.1)) ≡ Some after → IsChange uncounted (Rename first at) old (Ok tt) (old.0, after)
 unmoved-ok old first at after none same fits =
-    changed-ok (Rename first at) old old.0 old.1 after (in_turn-same (outside first at) (absent old.0 first) (is_path first at) (loops first at) (no_parent old.0 at) (replaced old.0 first at) (long old.0 first at) none same) (unmoved-pen old first at same) (pen-same old first at same) fits
+    IsChange-ok uncounted (Rename first at) old old.0 (counts_of old.1) after refl (in_turn-same (outside first at) (absent old.0 first) (is_path first at) (loops first at) (no_parent old.0 at) (replaced old.0 first at) (long old.0 first at) none same) (unmoved-pen (seen old) first at same) (pen-same (seen old) first at same) fits
 
-pub unmoved-full : (old : State) (first at : Names) → move_fault old.0 first at None ≡ None → is_path first at ≡ true → within_limits old.1 ≡ None → changed (Rename first at) old ≡ Err NoSpace
+pub unmoved-full : (old : Tree × Pen) (first at : Names) → move_fault old.0 first at None ≡ None → is_path first at ≡ true → within_limits (with_counts old.1 (counts_of old.1)) ≡ None → IsChange uncounted (Rename first at) old (Err NoSpace) old
 unmoved-full old first at none same full =
-    changed-full (Rename first at) old old.0 old.1 (in_turn-same (outside first at) (absent old.0 first) (is_path first at) (loops first at) (no_parent old.0 at) (replaced old.0 first at) (long old.0 first at) none same) (unmoved-pen old first at same) (pen-same old first at same) full
+    IsChange-full uncounted (Rename first at) old old.0 (counts_of old.1) (in_turn-same (outside first at) (absent old.0 first) (is_path first at) (loops first at) (no_parent old.0 at) (replaced old.0 first at) (long old.0 first at) none same) (unmoved-pen (seen old) first at same) (pen-same (seen old) first at same) full
 
 -- and one elsewhere
 abbrev pub moved_tree : State → Names → Names → Tree
@@ -90,19 +90,19 @@ moved-pen old first at other =
 moved-fault : (old : State) (first at : Names) → move_fault old.0 first at None ≡ None → is_path first at ≡ false → grows_too_long old.0 first at ≡ false → fault_of (Rename first at) old.0 ≡ None
 moved-fault old first at none other short = in_turn-last (outside first at) (absent old.0 first) (is_path first at) (loops first at) (no_parent old.0 at) (replaced old.0 first at) (long old.0 first at) none other ∙ ap (λ b. fault_if b TooLong) short
 
-pub moved-ok : (old : State) (first at : Names) (new : Tree) (after : Pen) → move_fault old.0 first at None ≡ None → is_path first at ≡ false → grows_too_long old.0 first at ≡ false
-    → within_limits (recounted old.1 old.0 (moved_tree old first at)) ≡ Some after → new ≡ moved_tree old first at → changed (Rename first at) old ≡ Ok (new, after)
+pub moved-ok : (old : Tree × Pen) (first at : Names) (new : Tree) (after : Pen) → move_fault old.0 first at None ≡ None → is_path first at ≡ false → grows_too_long old.0 first at ≡ false
+    → within_limits (with_counts old.1 (recounted (counts_of old.1) old.0 (moved_tree (seen old) first at))) ≡ Some after → new ≡ moved_tree (seen old) first at → IsChange uncounted (Rename first at) old (Ok tt) (new, after)
 moved-ok old first at new after none other short fits made =
-    changed-ok (Rename first at) old new (recounted old.1 old.0 (moved_tree old first at)) after (moved-fault old first at none other short) (moved-pen old first at other) (moved-after old first at other ∙ sym made) fits
+    IsChange-ok uncounted (Rename first at) old new (recounted (counts_of old.1) old.0 (moved_tree (seen old) first at)) after refl (moved-fault (seen old) first at none other short) (moved-pen (seen old) first at other) (moved-after (seen old) first at other ∙ sym made) fits
 
-pub moved-full : (old : State) (first at : Names) → move_fault old.0 first at None ≡ None → is_path first at ≡ false → grows_too_long old.0 first at ≡ false
-    → within_limits (recounted old.1 old.0 (moved_tree old first at)) ≡ None → changed (Rename first at) old ≡ Err NoSpace
+pub moved-full : (old : Tree × Pen) (first at : Names) → move_fault old.0 first at None ≡ None → is_path first at ≡ false → grows_too_long old.0 first at ≡ false
+    → within_limits (with_counts old.1 (recounted (counts_of old.1) old.0 (moved_tree (seen old) first at))) ≡ None → IsChange uncounted (Rename first at) old (Err NoSpace) old
 moved-full old first at none other short full =
-    changed-full (Rename first at) old (moved_tree old first at) (recounted old.1 old.0 (moved_tree old first at)) (moved-fault old first at none other short) (moved-pen old first at other) (moved-after old first at other) full
+    IsChange-full uncounted (Rename first at) old (moved_tree (seen old) first at) (recounted (counts_of old.1) old.0 (moved_tree (seen old) first at)) (moved-fault (seen old) first at none other short) (moved-pen (seen old) first at other) (moved-after (seen old) first at other) full
 
 -- a path that would become too long, or want of memory
-pub moved-refused : (old : State) (first at : Names) (fault : ChangeFault) → move_fault old.0 first at None ≡ None → is_path first at ≡ false → (fault ≡ Memory) ⊎ ((fault ≡ TooLong) × (grows_too_long old.0 first at ≡ true))
-    → IsChange (changed (Rename first at) old) old (Err fault) old
-moved-refused old first at fault none other (inl memory) = subst (λ (fault : ChangeFault). IsChange (changed (Rename first at) old) old (Err fault) old) (sym memory) refl
-moved-refused old first at fault none other (inr grows) = subst (λ (fault : ChangeFault). IsChange (changed (Rename first at) old) old (Err fault) old) (sym grows.0)
-    (changed-refused (Rename first at) old TooLong (in_turn-last (outside first at) (absent old.0 first) (is_path first at) (loops first at) (no_parent old.0 at) (replaced old.0 first at) (long old.0 first at) none other ∙ ap (λ b. fault_if b TooLong) grows.1), refl)
+pub moved-refused : (old : Tree × Pen) (first at : Names) (fault : ChangeFault) → move_fault old.0 first at None ≡ None → is_path first at ≡ false → (fault ≡ Memory) ⊎ ((fault ≡ TooLong) × (grows_too_long old.0 first at ≡ true))
+    → IsChange uncounted (Rename first at) old (Err fault) old
+moved-refused old first at fault none other (inl memory) = subst (λ (fault : ChangeFault). IsChange uncounted (Rename first at) old (Err fault) old) (sym memory) refl
+moved-refused old first at fault none other (inr grows) = subst (λ (fault : ChangeFault). IsChange uncounted (Rename first at) old (Err fault) old) (sym grows.0)
+    (changed-refused (Rename first at) (seen old) TooLong (in_turn-last (outside first at) (absent old.0 first) (is_path first at) (loops first at) (no_parent old.0 at) (replaced old.0 first at) (long old.0 first at) none other ∙ ap (λ b. fault_if b TooLong) grows.1), refl)

@@ -1,5 +1,5 @@
 //! What a tree of two maps does as a tree.
-ghost use Rattle.tree_map.specs.Parts.{shown, sealed_by};
+ghost use Rattle.tree_map.specs.Parts.{shown, sealed_by, uncounted};
 
 use crate::maps;
 use crate::trees::MapTree;
@@ -27,6 +27,8 @@ impl TreeOps for MapTree {
     ghost tree = { shown };
 
     ghost sealed = { sealed_by };
+
+    ghost copying = { uncounted };
 
     /// The time is constant.
     fn empty(alloc: Global) -> Result<MapTree, Memory> {

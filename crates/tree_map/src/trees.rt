@@ -6,15 +6,15 @@ ghost use Rattle.std.specs.List.{list_any};
 ghost use Rattle.std.specs.BTreeMap.{values, IsOrdered};
 ghost use Rattle.br_path.specs.Path.{parent_of, path_cmp};
 ghost use Rattle.tree_ops.specs.Tree.{node_at, is_used, has_label};
-ghost use Rattle.tree_ops.specs.Change.{new_name_fault, no_folder_fault, parent_fault, IsChecked, IsChange, changed, MakeDir, MakeLink, Remove, Rename, Populate, MakeFile, count_if, Write, Append, SetMode, AddName, has_names, remove_fault, replace_fault, label_of, recounted, relabelled, contents_at, with_contents, is_own};
+ghost use Rattle.tree_ops.specs.Change.{new_name_fault, no_folder_fault, parent_fault, IsChecked, IsChange, MakeDir, MakeLink, Remove, Rename, Populate, MakeFile, count_if, Write, Append, SetMode, AddName, has_names, remove_fault, replace_fault, label_of, recounted, relabelled, contents_at, with_contents, is_own};
 ghost use Rattle.tree_map.specs.Parts.{names_of, shown, with_name, without_name, with_label, without_label, without_unused, with_relabelled, IsFile, IsRemovable, without_gone, move_fault};
 ghost use Rattle.std.specs.Prelude.{None, Some, false, true, IfOk, ◌++◌, length, ◌<◌, ◌^◌};
 ghost use Rattle.tree_ops.specs.Tree.{is_dir};
 ghost use Rattle.tree_ops.specs.Held.{IsSealed};
-ghost use Rattle.tree_map.specs.Parts.{sealed_by};
+ghost use Rattle.tree_map.specs.Parts.{sealed_by, uncounted};
 ghost use Rattle.br_path.specs.Path.{Names};
 ghost use Rattle.tree_ops.specs.Change.{is_path};
-ghost use Rattle.tree_ops.specs.Pen.{within_limits};
+ghost use Rattle.tree_ops.specs.Pen.{counts_of, with_counts, within_limits};
 ghost use Rattle.tree_ops.specs.Tree.{Tree};
 
 use crate::maps;
@@ -174,7 +174,7 @@ impl MapTree {
 
     /// Gives a file other contents: in its place where the label is the task's own; else all its names get the task's next label first.
     fn put_contents(&mut self, label: Label, contents: Contents, pen: &Pen) -> Result<(), Memory>
-        ensures ok { OnOk result (shown self.new ≡ with_contents (shown self.old, pen.now) label contents) }
+        ensures ok { OnOk result (shown self.new ≡ with_contents (shown self.old, counts_of pen.now) label contents) }
         ensures err { OnErr result (shown self.new ≡ shown self.old) }
     {
         if label.task == pen.task {
@@ -194,7 +194,7 @@ impl MapTree {
         mode: u16,
         pen: &mut Pen,
     ) -> Result<(), ChangeFault>
-        ensures { IsChange (changed (MakeDir at.now mode) (shown self.old, pen.old)) (shown self.old, pen.old) result (shown self.new, pen.new) }
+        ensures { IsChange uncounted (MakeDir at.now mode) (shown self.old, pen.old) result (shown self.new, pen.new) }
     {
         self.check_new_name(alloc, at)?;
         let after = match pen.with_name(at) {
@@ -213,7 +213,7 @@ impl MapTree {
         bytes: &[u8],
         pen: &mut Pen,
     ) -> Result<(), ChangeFault>
-        ensures { IsChange (changed (Write at.now bytes.now) (shown self.old, pen.old)) (shown self.old, pen.old) result (shown self.new, pen.new) }
+        ensures { IsChange uncounted (Write at.now bytes.now) (shown self.old, pen.old) result (shown self.new, pen.new) }
     {
         let label = self.file(at)?;
         let after = match pen.charged(label.task != pen.task, bytes.len()) {
@@ -236,7 +236,7 @@ impl MapTree {
         at: &Path,
         pen: &mut Pen,
     ) -> Result<(), ChangeFault>
-        ensures { IsChange (changed (AddName old.now at.now) (shown self.old, pen.old)) (shown self.old, pen.old) result (shown self.new, pen.new) }
+        ensures { IsChange uncounted (AddName old.now at.now) (shown self.old, pen.old) result (shown self.new, pen.new) }
     {
         let label = self.file(old)?;
         self.check_new_name(alloc, at)?;
@@ -256,7 +256,7 @@ impl MapTree {
         text: &[u8],
         pen: &mut Pen,
     ) -> Result<(), ChangeFault>
-        ensures { IsChange (changed (MakeLink at.now text.now) (shown self.old, pen.old)) (shown self.old, pen.old) result (shown self.new, pen.new) }
+        ensures { IsChange uncounted (MakeLink at.now text.now) (shown self.old, pen.old) result (shown self.new, pen.new) }
     {
         self.check_new_name(alloc, at)?;
         let after = match pen.with_name(at) {
@@ -308,7 +308,7 @@ impl MapTree {
         at: &Path,
         pen: &mut Pen,
     ) -> Result<(), ChangeFault>
-        ensures { IsChange (changed (Remove at.now) (shown self.old, pen.old)) (shown self.old, pen.old) result (shown self.new, pen.new) }
+        ensures { IsChange uncounted (Remove at.now) (shown self.old, pen.old) result (shown self.new, pen.new) }
     {
         if maps::is_path(at, &Path::root(alloc)) {
             return Err(ChangeFault::Outside);
@@ -354,7 +354,7 @@ impl MapTree {
 
     /// The pen after other names, unless a count passes its limit.
     fn counted(&self, names: &BTreeMap<Path, Node>, pen: &Pen) -> Option<Pen>
-        ensures { (new : Tree) → new.names ≡ names_of names.now → result ≡ within_limits (recounted pen.now (shown self.now) new) }
+        ensures { (new : Tree) → new.names ≡ names_of names.now → result ≡ within_limits (with_counts pen.now (recounted (counts_of pen.now) (shown self.now) new)) }
     {
         pen.counted_anew(maps::measure(&self.names), maps::measure(names))
     }
@@ -365,7 +365,7 @@ impl MapTree {
         from: &MapTree,
         pen: &mut Pen,
     ) -> Result<(), ChangeFault>
-        ensures { IsChange (changed (Populate (shown from.now)) (shown self.old, pen.old)) (shown self.old, pen.old) result (shown self.new, pen.new) }
+        ensures { IsChange uncounted (Populate (shown from.now)) (shown self.old, pen.old) result (shown self.new, pen.new) }
     {
         let names = maps::names_over(alloc, &self.names, &from.names)?;
         let labels = maps::labels_over(alloc, &self.labels, &from.labels, &names)?;
@@ -410,7 +410,7 @@ impl MapTree {
     ) -> Result<(), ChangeFault>
         requires refused { move_fault (shown self.old) old.now at.now None ≡ None }
         requires other { is_path old.now at.now ≡ false }
-        ensures { IsChange (changed (Rename old.now at.now) (shown self.old, pen.old)) (shown self.old, pen.old) result (shown self.new, pen.new) }
+        ensures { IsChange uncounted (Rename old.now at.now) (shown self.old, pen.old) result (shown self.new, pen.new) }
     {
         let names = match maps::moved_names(alloc, &self.names, old, at) {
             Err(fault) => return Err(fault),
@@ -434,7 +434,7 @@ impl MapTree {
         at: &Path,
         pen: &mut Pen,
     ) -> Result<(), ChangeFault>
-        ensures { IsChange (changed (Rename old.now at.now) (shown self.old, pen.old)) (shown self.old, pen.old) result (shown self.new, pen.new) }
+        ensures { IsChange uncounted (Rename old.now at.now) (shown self.old, pen.old) result (shown self.new, pen.new) }
     {
         match self.check_move(alloc, old, at) {
             Err(fault) => return Err(fault),
@@ -477,7 +477,7 @@ impl MapTree {
         bytes: &[u8],
         pen: &mut Pen,
     ) -> Result<(), ChangeFault>
-        ensures { IsChange (changed (Append at.now bytes.now) (shown self.old, pen.old)) (shown self.old, pen.old) result (shown self.new, pen.new) }
+        ensures { IsChange uncounted (Append at.now bytes.now) (shown self.old, pen.old) result (shown self.new, pen.new) }
     {
         let label = self.file(at)?;
         let draws = label.task != pen.task;
@@ -503,7 +503,7 @@ impl MapTree {
         mode: u16,
         pen: &mut Pen,
     ) -> Result<(), ChangeFault>
-        ensures { (at : Names) → node_at (shown self.old) at ≡ Some (Node.File label) → IsChange (changed (SetMode at mode) (shown self.old, pen.old)) (shown self.old, pen.old) result (shown self.new, pen.new) }
+        ensures { (at : Names) → node_at (shown self.old) at ≡ Some (Node.File label) → IsChange uncounted (SetMode at mode) (shown self.old, pen.old) result (shown self.new, pen.new) }
     {
         let draws = label.task != pen.task;
         let copied = self.copied_len(draws, label);
@@ -523,7 +523,7 @@ impl MapTree {
     /// Sets the mode of a folder.
     fn set_dir_mode(&mut self, at: &Path, mode: u16, pen: &mut Pen) -> Result<(), ChangeFault>
         requires { is_dir (node_at (shown self.old) at.now) ≡ true }
-        ensures { IsChange (changed (SetMode at.now mode) (shown self.old, pen.old)) (shown self.old, pen.old) result (shown self.new, pen.new) }
+        ensures { IsChange uncounted (SetMode at.now mode) (shown self.old, pen.old) result (shown self.new, pen.new) }
     {
         let after = match pen.if_within_limits() {
             None => return Err(ChangeFault::NoSpace),
@@ -559,7 +559,7 @@ impl MapTree {
         bytes: &[u8],
         pen: &mut Pen,
     ) -> Result<(), ChangeFault>
-        ensures { IsChange (changed (MakeFile at.now mode bytes.now) (shown self.old, pen.old)) (shown self.old, pen.old) result (shown self.new, pen.new) }
+        ensures { IsChange uncounted (MakeFile at.now mode bytes.now) (shown self.old, pen.old) result (shown self.new, pen.new) }
     {
         self.check_new_name(alloc, at)?;
         let after = match pen.with_file(at, bytes) {
@@ -582,7 +582,7 @@ impl MapTree {
         mode: u16,
         pen: &mut Pen,
     ) -> Result<(), ChangeFault>
-        ensures { IsChange (changed (SetMode at.now mode) (shown self.old, pen.old)) (shown self.old, pen.old) result (shown self.new, pen.new) }
+        ensures { IsChange uncounted (SetMode at.now mode) (shown self.old, pen.old) result (shown self.new, pen.new) }
     {
         let label = match self.node(at) {
             None => return Err(ChangeFault::Absent),

@@ -13,7 +13,7 @@ use Rattle.std.proofs.lemmas.Cmp.{tied_itself}
 use Rattle.std.specs.Ordering.{eq_by_cmp, is_eq}
 use Rattle.br_path.specs.Path.{Names, rooted_text, path_cmp}
 use Rattle.br_path.proofs.PathOrder.{path_total, path_same}
-use Rattle.tree_ops.specs.declared.pen.Pen.{Pen}
+use Rattle.tree_ops.specs.Pen.{Counts}
 use Rattle.tree_ops.specs.declared.entry.Node.{Node}
 use Rattle.tree_ops.specs.declared.entry.Label.{Label}
 use Rattle.tree_ops.specs.Tree.{Tree}
@@ -21,28 +21,28 @@ use Rattle.tree_ops.specs.Change.{recounted, text_bytes, named, unnamed, relabel
 use Rattle.tree_ops.proofs.Inserts.{sum_by-entries_insert, len-insert_new}
 
 -- one name more
-pub recounted-more : (pen : Pen) (old new : Tree) (at : Names) → fin.len new.names ≡ fin.len old.names + 1 → text_bytes new ≡ length (rooted_text at) + text_bytes old → recounted pen old new ≡ named pen at
+pub recounted-more : (pen : Counts) (old new : Tree) (at : Names) → fin.len new.names ≡ fin.len old.names + 1 → text_bytes new ≡ length (rooted_text at) + text_bytes old → recounted pen old new ≡ named pen at
 recounted-more pen old new at more texts =
     let names : pen.names + fin.len new.names - fin.len old.names ≡ pen.names + 1 = omega arith in
     let bytes : pen.path_bytes + text_bytes new - text_bytes old ≡ pen.path_bytes + length (rooted_text at) = omega arith in
     λ i. record pen { names = names i; path_bytes = bytes i }
 
 -- as many
-pub recounted-same : (pen : Pen) (old new : Tree) → fin.len new.names ≡ fin.len old.names → text_bytes new ≡ text_bytes old → recounted pen old new ≡ pen
+pub recounted-same : (pen : Counts) (old new : Tree) → fin.len new.names ≡ fin.len old.names → text_bytes new ≡ text_bytes old → recounted pen old new ≡ pen
 recounted-same pen old new same texts =
     let names : pen.names + fin.len new.names - fin.len old.names ≡ pen.names = omega arith in
     let bytes : pen.path_bytes + text_bytes new - text_bytes old ≡ pen.path_bytes = omega arith in
     λ i. record pen { names = names i; path_bytes = bytes i }
 
 -- one less
-pub recounted-less : (pen : Pen) (old new : Tree) (at : Names) → fin.len old.names ≡ fin.len new.names + 1 → text_bytes old ≡ length (rooted_text at) + text_bytes new → recounted pen old new ≡ unnamed pen at
+pub recounted-less : (pen : Counts) (old new : Tree) (at : Names) → fin.len old.names ≡ fin.len new.names + 1 → text_bytes old ≡ length (rooted_text at) + text_bytes new → recounted pen old new ≡ unnamed pen at
 recounted-less pen old new at less texts =
     let names : pen.names + fin.len new.names - fin.len old.names ≡ pen.names - 1 = omega arith in
     let bytes : pen.path_bytes + text_bytes new - text_bytes old ≡ pen.path_bytes - length (rooted_text at) = omega arith in
     λ i. record pen { names = names i; path_bytes = bytes i }
 
 -- a new name
-pub recounted-insert : (pen : Pen) (old new : Tree) (at : Names) (node : Node) → fin.get old.names at ≡ None → new.names ≡ fin.insert old.names at node → recounted pen old new ≡ named pen at
+pub recounted-insert : (pen : Counts) (old new : Tree) (at : Names) (node : Node) → fin.get old.names at ≡ None → new.names ≡ fin.insert old.names at node → recounted pen old new ≡ named pen at
 recounted-insert pen old new at node none is =
     recounted-more pen old new at
     (ap fin.len is ∙ len-insert_new path_total old.names at node none)
@@ -71,7 +71,7 @@ module _ {K X : Type 0} {R : K → K → Ordering} (o : IsTotalOrder R) (same : 
       ap fin.entries (fin.same_map o same _ _ (λ q. fin.get-from_entries o es q ∙ sym (fin.get-from_sorted R es q sorted))) ∙ fin.entries-from_sorted R es sorted
 
 -- a name that is taken away
-pub recounted-remove : (pen : Pen) (old new : Tree) (at : Names) (node : Node) → fin.get old.names at ≡ Some node → new.names ≡ fin.remove old.names at → recounted pen old new ≡ unnamed pen at
+pub recounted-remove : (pen : Counts) (old new : Tree) (at : Names) (node : Node) → fin.get old.names at ≡ Some node → new.names ≡ fin.remove old.names at → recounted pen old new ≡ unnamed pen at
 recounted-remove pen old new at node there is =
     let none = ap (λ names. fin.get names at) is ∙ get-remove_same path_total path_same old.names at in
     let back = sym (ap (λ names. fin.insert names at node) is ∙ insert-remove path_total path_same old.names at node there) in
@@ -104,7 +104,7 @@ pub entries-relabelled : (from to : Label) (names : FinMap path_cmp Node) → fi
 entries-relabelled from to names =
     entries-from_entries path_total path_same _ (subst T (sym (is_sorted-mapped path_cmp (relabelled_node from to) (fin.entries names))) (fin.entries_sorted names))
 
-pub recounted-relabelled : (pen : Pen) (old new : Tree) (from to : Label) → new.names ≡ relabelled from to old.names → recounted pen old new ≡ pen
+pub recounted-relabelled : (pen : Counts) (old new : Tree) (from to : Label) → new.names ≡ relabelled from to old.names → recounted pen old new ≡ pen
 recounted-relabelled pen old new from to is =
     let listed = ap fin.entries is ∙ entries-relabelled from to old.names in
     recounted-same pen old new

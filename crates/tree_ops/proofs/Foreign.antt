@@ -10,7 +10,7 @@ use Rattle.tree_ops.specs.declared.entry.Contents.{Contents}
 use Rattle.tree_ops.specs.declared.entry.Label.{Label}
 use Rattle.tree_ops.specs.declared.entry.Node.{Node}
 use Rattle.tree_ops.specs.declared.entry.Node.TheVariants.{Dir, Link, File}
-use Rattle.tree_ops.specs.declared.pen.Pen.{Pen}
+use Rattle.tree_ops.specs.Pen.{Counts}
 use Rattle.tree_ops.specs.Tree.{Tree, label_cmp, node_at, is_used}
 use Rattle.tree_ops.specs.Change.{Change, MakeFile, Write, Append, SetMode, AddName, MakeLink, MakeDir, Remove, Rename, Populate, State, changed, tree_after, is_own, next_label, with_contents, written, with_mode, with_bytes, with_more, mode_set, named_again, dropped_unused, label_of, renamed, moved, is_path, contents_at}
 use Rattle.tree_ops.proofs.Orders.{label_total, label_same}
@@ -21,7 +21,7 @@ use Rattle.tree_ops.proofs.Outcomes.{after-changed}
 abbrev pub StaysOrGoes : FinMap label_cmp Contents → FinMap label_cmp Contents → Label → Type 0
 StaysOrGoes old new label = (fin.get new label ≡ fin.get old label) ⊎ (fin.get new label ≡ None)
 
-other_insert : (pen : Pen) (m : FinMap label_cmp Contents) (own label : Label) (c : Contents) → is_own pen own ≡ true → is_own pen label ≡ false → fin.get (fin.insert m own c) label ≡ fin.get m label
+other_insert : (pen : Counts) (m : FinMap label_cmp Contents) (own label : Label) (c : Contents) → is_own pen own ≡ true → is_own pen label ≡ false → fin.get (fin.insert m own c) label ≡ fin.get m label
 other_insert pen m own label c mine other = elim (get-insert_cases label_total label_same m own c label) [
   | inl found ↦ absurd (true≢false (sym mine ∙ sym (ap (is_own pen) found.0) ∙ other))
   | inr same ↦ same
@@ -38,7 +38,7 @@ stays_on : (old mid new : FinMap label_cmp Contents) (label : Label) → fin.get
 stays_on old mid new label same (inl stays) = inl (stays ∙ same)
 stays_on old mid new label same (inr goes) = inr goes
 
-next_own : (pen : Pen) → is_own pen (next_label pen) ≡ true
+next_own : (pen : Counts) → is_own pen (next_label pen) ≡ true
 next_own pen = grind (arith, nat_tests)
 
 -- which of two trees has the labels

@@ -16,8 +16,9 @@ use Rattle.tree_ops.specs.declared.entry.Contents.{Contents}
 use Rattle.tree_ops.specs.declared.entry.Node.{Node}
 use Rattle.tree_ops.specs.declared.entry.Node.TheVariants.{Dir, Link, File}
 use Rattle.tree_ops.specs.declared.pen.Pen.{Pen}
+use Rattle.tree_ops.specs.Pen.{Counts, counts_of}
 use Rattle.tree_ops.specs.Tree.{Tree, IsTree, IsLinkText, label_cmp, node_at, is_used, over}
-use Rattle.tree_ops.specs.Change.{Change, MakeFile, Write, Append, SetMode, AddName, MakeLink, MakeDir, Remove, Rename, Populate, State, changed, after, fault_of, tree_after, drawn, new_name_fault, parent_fault, fault_if, file_fault, remove_fault, replace_fault, rename_fault, is_path, is_below, is_at_or_below, is_too_long, grows_too_long, moved_path, moved, renamed, IsChange, is_own, next_label, with_contents, written, with_bytes, with_more, with_mode, mode_set, named_again, relabelled, contents_at, no_contents, label_of, dropped_unused, is_foreign, count_if}
+use Rattle.tree_ops.specs.Change.{Change, MakeFile, Write, Append, SetMode, AddName, MakeLink, MakeDir, Remove, Rename, Populate, State, changed, after, fault_of, tree_after, drawn, new_name_fault, parent_fault, fault_if, file_fault, remove_fault, replace_fault, rename_fault, is_path, is_below, is_at_or_below, is_too_long, grows_too_long, moved_path, moved, renamed, seen, IsChange, is_own, next_label, with_contents, written, with_bytes, with_more, with_mode, mode_set, named_again, relabelled, contents_at, no_contents, label_of, dropped_unused, is_foreign, count_if}
 use Rattle.tree_ops.specs.Held.{IsHeld, IsForeign, IsAsked, IsReached}
 use Rattle.tree_ops.proofs.Orders.{label_total, label_same}
 use Rattle.tree_ops.proofs.Inserts.{get-insert_cases, get-insert_same}
@@ -88,7 +89,7 @@ file_there (Some (Dir mode)) none = cc
 file_there (Some (Link text)) none = cc
 file_there (Some (File label)) none = (label, refl)
 
-next_is_own : (pen : Pen) → is_own pen (next_label pen) ≡ true
+next_is_own : (pen : Counts) → is_own pen (next_label pen) ≡ true
 next_is_own pen = grind (arith, nat_tests)
 
 -- with_contents by the test whether the label is the task's own
@@ -206,19 +207,19 @@ IsTree-changed change old new asked tree is =
 
 -- 5. Labels that are drawn.
 
-abbrev AreDrawn : FinMap label_cmp Contents → Pen → ℕ → Type 0
+abbrev AreDrawn : FinMap label_cmp Contents → Counts → ℕ → Type 0
 AreDrawn labels pen next = (label : Label) (contents : Contents) → fin.get labels label ≡ Some contents → is_own pen label ≡ true → label.number < next
 
-drawn-later : (labels : FinMap label_cmp Contents) (pen : Pen) (n m : ℕ) → n ≤ m → AreDrawn labels pen n → AreDrawn labels pen m
+drawn-later : (labels : FinMap label_cmp Contents) (pen : Counts) (n m : ℕ) → n ≤ m → AreDrawn labels pen n → AreDrawn labels pen m
 drawn-later labels pen n m later all label contents there own = let less = all label contents there own in omega arith
 
-drawn-insert : (pen : Pen) (labels : FinMap label_cmp Contents) (l : Label) (c : Contents) (n : ℕ) → (is_own pen l ≡ true → l.number < n) → AreDrawn labels pen n → AreDrawn (fin.insert labels l c) pen n
+drawn-insert : (pen : Counts) (labels : FinMap label_cmp Contents) (l : Label) (c : Contents) (n : ℕ) → (is_own pen l ≡ true → l.number < n) → AreDrawn labels pen n → AreDrawn (fin.insert labels l c) pen n
 drawn-insert pen labels l c n first all label contents there own = elim (get-insert_cases label_total label_same labels l c label) [
   | inl found ↦ let less = first (ap (is_own pen) (sym found.0) ∙ own) in let same : label.number ≡ l.number = ap (λ (l : Label). l.number) found.0 in omega arith
   | inr same ↦ all label contents (sym same ∙ there) own
 ]
 
-drawn-remove : (pen : Pen) (labels : FinMap label_cmp Contents) (l : Label) (n : ℕ) → AreDrawn labels pen n → AreDrawn (fin.remove labels l) pen n
+drawn-remove : (pen : Counts) (labels : FinMap label_cmp Contents) (l : Label) (n : ℕ) → AreDrawn labels pen n → AreDrawn (fin.remove labels l) pen n
 drawn-remove pen labels l n all label contents there own = all label contents (get-removed label_total label_same labels l label contents there).0 own
 
 abbrev chosen_labels : State → Label → Contents → Bool → FinMap label_cmp Contents
@@ -329,11 +330,11 @@ IsHeld-changed change old new was sealed asked held is own =
     }
 
 -- the law: whatever a call answers, what was held is held, where the labels that aren't sealed are the task's own
-pub IsHeld-IsChange : (change : Change) (old new : State) (was sealed : Label → Bool) (result : Result (Unit {0}) ChangeFault) → IsAsked change old.1 → IsHeld old.0 was old.1
-    → ((label : Label) → sealed label ≡ not (is_own old.1 label)) → IsChange (changed change old) old result new → IsHeld new.0 sealed new.1
-IsHeld-IsChange change old new was sealed (Ok done) asked held own is = IsHeld-changed change old new was sealed asked held is own
-IsHeld-IsChange change old new was sealed (Err Memory) asked held own is = IsHeld-refused old new was sealed held is own
-IsHeld-IsChange change old new was sealed (Err fault) asked held own is = IsHeld-refused old new was sealed held is.1 own
+pub IsHeld-IsChange : (copying : ℕ → ℕ → ℕ) (change : Change) (old new : Tree × Pen) (was sealed : Label → Bool) (result : Result (Unit {0}) ChangeFault) → IsAsked change (counts_of old.1) → IsHeld old.0 was (counts_of old.1)
+    → ((label : Label) → sealed label ≡ not (is_own (counts_of old.1) label)) → IsChange copying change old result new → IsHeld new.0 sealed (counts_of new.1)
+IsHeld-IsChange copying change old new was sealed (Ok done) asked held own is = IsHeld-changed change (seen old) (seen new) was sealed asked held is.0 own
+IsHeld-IsChange copying change old new was sealed (Err Memory) asked held own is = IsHeld-refused (seen old) (seen new) was sealed held (ap seen is) own
+IsHeld-IsChange copying change old new was sealed (Err fault) asked held own is = IsHeld-refused (seen old) (seen new) was sealed held (ap seen is.1) own
 
 IsReached-after : (change : Change) (old : State) → IsAsked change old.1 → IsReached old → fault_of change old.0 ≡ None → IsReached (after change old)
 IsReached-after change old asked reached none = record {

@@ -8,6 +8,8 @@ ghost use Rattle.tree_ops.specs.Walk.{resolved, IsWalk};
 ghost use Rattle.br_path.specs.Gives.{Gives};
 ghost use Rattle.tree_ops.specs.declared.change.ChangeFault.TheVariants.{Memory as no_memory};
 ghost use Rattle.tree_ops.specs.Change.{MakeFile, Write, Append, SetMode, AddName, MakeLink, MakeDir, Remove, Rename, Populate, changed, IsChange, Change, State, is_own};
+ghost use Rattle.tree_ops.specs.Pen.{counts_of};
+ghost use Rattle.tree_ops.specs.declared.pen.Pen.{Pen as pen_of};
 ghost use Rattle.tree_ops.specs.Held.{IsHeld, IsSealed, IsForeign, IsAsked, IsReached};
 ghost use Rattle.tree_ops.specs.declared.change.ChangeFault.{ChangeFault as fault_of_change};
 
@@ -24,6 +26,9 @@ pub trait TreeOps: Drop {
 
     /// Which of its labels are sealed.
     ghost sealed: { Self → label_of → Bool };
+
+    /// What a pen's `copied` becomes: by what it was, and by how many bytes of another task's file had to be copied.
+    ghost copying: { ℕ → ℕ → ℕ };
 
     /// The root alone, with mode 0o755.
     fn empty(alloc: Global) -> Result<Self, Memory>
@@ -66,9 +71,9 @@ pub trait TreeOps: Drop {
         pen: &mut Pen,
     ) -> Result<(), ChangeFault>
         requires mode { mode ≤ 4095 }
-        requires held { IsHeld (tree self.old) (sealed self.old) pen.old }
-        ensures change { IsChange (changed (MakeFile at.now mode bytes.now) (tree self.old, pen.old)) (tree self.old, pen.old) result (tree self.new, pen.new) }
-        ensures held { IsHeld (tree self.new) (sealed self.new) pen.new };
+        requires held { IsHeld (tree self.old) (sealed self.old) (counts_of pen.old) }
+        ensures change { IsChange copying (MakeFile at.now mode bytes.now) (tree self.old, pen.old) result (tree self.new, pen.new) }
+        ensures held { IsHeld (tree self.new) (sealed self.new) (counts_of pen.new) };
 
     /// Replaces the contents of a file, at all its names.
     fn write(
@@ -78,9 +83,9 @@ pub trait TreeOps: Drop {
         bytes: &[u8],
         pen: &mut Pen,
     ) -> Result<(), ChangeFault>
-        requires held { IsHeld (tree self.old) (sealed self.old) pen.old }
-        ensures change { IsChange (changed (Write at.now bytes.now) (tree self.old, pen.old)) (tree self.old, pen.old) result (tree self.new, pen.new) }
-        ensures held { IsHeld (tree self.new) (sealed self.new) pen.new };
+        requires held { IsHeld (tree self.old) (sealed self.old) (counts_of pen.old) }
+        ensures change { IsChange copying (Write at.now bytes.now) (tree self.old, pen.old) result (tree self.new, pen.new) }
+        ensures held { IsHeld (tree self.new) (sealed self.new) (counts_of pen.new) };
 
     /// Adds to the contents of a file, at all its names.
     fn append(
@@ -90,9 +95,9 @@ pub trait TreeOps: Drop {
         bytes: &[u8],
         pen: &mut Pen,
     ) -> Result<(), ChangeFault>
-        requires held { IsHeld (tree self.old) (sealed self.old) pen.old }
-        ensures change { IsChange (changed (Append at.now bytes.now) (tree self.old, pen.old)) (tree self.old, pen.old) result (tree self.new, pen.new) }
-        ensures held { IsHeld (tree self.new) (sealed self.new) pen.new };
+        requires held { IsHeld (tree self.old) (sealed self.old) (counts_of pen.old) }
+        ensures change { IsChange copying (Append at.now bytes.now) (tree self.old, pen.old) result (tree self.new, pen.new) }
+        ensures held { IsHeld (tree self.new) (sealed self.new) (counts_of pen.new) };
 
     /// Sets the mode of a file, at all its names, or of a folder.
     fn set_mode(
@@ -103,9 +108,9 @@ pub trait TreeOps: Drop {
         pen: &mut Pen,
     ) -> Result<(), ChangeFault>
         requires mode { mode ≤ 4095 }
-        requires held { IsHeld (tree self.old) (sealed self.old) pen.old }
-        ensures change { IsChange (changed (SetMode at.now mode) (tree self.old, pen.old)) (tree self.old, pen.old) result (tree self.new, pen.new) }
-        ensures held { IsHeld (tree self.new) (sealed self.new) pen.new };
+        requires held { IsHeld (tree self.old) (sealed self.old) (counts_of pen.old) }
+        ensures change { IsChange copying (SetMode at.now mode) (tree self.old, pen.old) result (tree self.new, pen.new) }
+        ensures held { IsHeld (tree self.new) (sealed self.new) (counts_of pen.new) };
 
     /// Makes one more name of a file.
     fn link(
@@ -115,9 +120,9 @@ pub trait TreeOps: Drop {
         at: &Path,
         pen: &mut Pen,
     ) -> Result<(), ChangeFault>
-        requires held { IsHeld (tree self.old) (sealed self.old) pen.old }
-        ensures change { IsChange (changed (AddName old.now at.now) (tree self.old, pen.old)) (tree self.old, pen.old) result (tree self.new, pen.new) }
-        ensures held { IsHeld (tree self.new) (sealed self.new) pen.new };
+        requires held { IsHeld (tree self.old) (sealed self.old) (counts_of pen.old) }
+        ensures change { IsChange copying (AddName old.now at.now) (tree self.old, pen.old) result (tree self.new, pen.new) }
+        ensures held { IsHeld (tree self.new) (sealed self.new) (counts_of pen.new) };
 
     /// Makes a symbolic link.
     fn symlink(
@@ -128,9 +133,9 @@ pub trait TreeOps: Drop {
         pen: &mut Pen,
     ) -> Result<(), ChangeFault>
         requires text { IsLinkText text.now }
-        requires held { IsHeld (tree self.old) (sealed self.old) pen.old }
-        ensures change { IsChange (changed (MakeLink at.now text.now) (tree self.old, pen.old)) (tree self.old, pen.old) result (tree self.new, pen.new) }
-        ensures held { IsHeld (tree self.new) (sealed self.new) pen.new };
+        requires held { IsHeld (tree self.old) (sealed self.old) (counts_of pen.old) }
+        ensures change { IsChange copying (MakeLink at.now text.now) (tree self.old, pen.old) result (tree self.new, pen.new) }
+        ensures held { IsHeld (tree self.new) (sealed self.new) (counts_of pen.new) };
 
     /// Makes an empty folder.
     fn mkdir(
@@ -141,15 +146,15 @@ pub trait TreeOps: Drop {
         pen: &mut Pen,
     ) -> Result<(), ChangeFault>
         requires mode { mode ≤ 4095 }
-        requires held { IsHeld (tree self.old) (sealed self.old) pen.old }
-        ensures change { IsChange (changed (MakeDir at.now mode) (tree self.old, pen.old)) (tree self.old, pen.old) result (tree self.new, pen.new) }
-        ensures held { IsHeld (tree self.new) (sealed self.new) pen.new };
+        requires held { IsHeld (tree self.old) (sealed self.old) (counts_of pen.old) }
+        ensures change { IsChange copying (MakeDir at.now mode) (tree self.old, pen.old) result (tree self.new, pen.new) }
+        ensures held { IsHeld (tree self.new) (sealed self.new) (counts_of pen.new) };
 
     /// Takes a name away.
     fn remove(&mut self, alloc: Global, at: &Path, pen: &mut Pen) -> Result<(), ChangeFault>
-        requires held { IsHeld (tree self.old) (sealed self.old) pen.old }
-        ensures change { IsChange (changed (Remove at.now) (tree self.old, pen.old)) (tree self.old, pen.old) result (tree self.new, pen.new) }
-        ensures held { IsHeld (tree self.new) (sealed self.new) pen.new };
+        requires held { IsHeld (tree self.old) (sealed self.old) (counts_of pen.old) }
+        ensures change { IsChange copying (Remove at.now) (tree self.old, pen.old) result (tree self.new, pen.new) }
+        ensures held { IsHeld (tree self.new) (sealed self.new) (counts_of pen.new) };
 
     /// Moves a name and all below it, in place of what stood there.
     fn rename(
@@ -159,18 +164,18 @@ pub trait TreeOps: Drop {
         at: &Path,
         pen: &mut Pen,
     ) -> Result<(), ChangeFault>
-        requires held { IsHeld (tree self.old) (sealed self.old) pen.old }
-        ensures change { IsChange (changed (Rename old.now at.now) (tree self.old, pen.old)) (tree self.old, pen.old) result (tree self.new, pen.new) }
-        ensures held { IsHeld (tree self.new) (sealed self.new) pen.new };
+        requires held { IsHeld (tree self.old) (sealed self.old) (counts_of pen.old) }
+        ensures change { IsChange copying (Rename old.now at.now) (tree self.old, pen.old) result (tree self.new, pen.new) }
+        ensures held { IsHeld (tree self.new) (sealed self.new) (counts_of pen.new) };
 
     /// Lays a sealed tree over this one.
     fn populate(&mut self, alloc: Global, from: &Self, pen: &mut Pen) -> Result<(), ChangeFault>
         requires sound { IsTree (tree from.now) }
         requires sealed { IsSealed (tree from.now) (sealed from.now) }
-        requires foreign { IsForeign (tree from.now) pen.old }
-        requires held { IsHeld (tree self.old) (sealed self.old) pen.old }
-        ensures change { IsChange (changed (Populate (tree from.now)) (tree self.old, pen.old)) (tree self.old, pen.old) result (tree self.new, pen.new) }
-        ensures held { IsHeld (tree self.new) (sealed self.new) pen.new };
+        requires foreign { IsForeign (tree from.now) (counts_of pen.old) }
+        requires held { IsHeld (tree self.old) (sealed self.old) (counts_of pen.old) }
+        ensures change { IsChange copying (Populate (tree from.now)) (tree self.old, pen.old) result (tree self.new, pen.new) }
+        ensures held { IsHeld (tree self.new) (sealed self.new) (counts_of pen.new) };
 
     /// The same sealed tree once more; no pen counts it.
     fn copy(&self, alloc: Global) -> Result<Self, Memory>
@@ -191,5 +196,5 @@ pub trait TreeOps: Drop {
 /// Changes keep trees: each leads from a state that a task reaches to one, whatever it is.
 pub fn changes_keep_trees()
     ensures next { (change : Change) (old new : State) → IsAsked change old.1 → IsReached old → changed change old ≡ Ok new → IsReached new }
-    ensures held { (change : Change) (old new : State) (was sealed : label_of → Bool) (result : Result (Unit {0}) fault_of_change) → IsAsked change old.1 → IsHeld old.0 was old.1 → ((label : label_of) → sealed label ≡ not (is_own old.1 label)) → IsChange (changed change old) old result new → IsHeld new.0 sealed new.1 }
+    ensures held { (copying : ℕ → ℕ → ℕ) (change : Change) (old new : Tree × pen_of) (was sealed : label_of → Bool) (result : Result (Unit {0}) fault_of_change) → IsAsked change (counts_of old.1) → IsHeld old.0 was (counts_of old.1) → ((label : label_of) → sealed label ≡ not (is_own (counts_of old.1) label)) → IsChange copying change old result new → IsHeld new.0 sealed (counts_of new.1) }
 {}

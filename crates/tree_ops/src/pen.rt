@@ -23,7 +23,7 @@ pub struct Pen {
 }
 
 impl Pen {
-    ghost use Rattle.tree_ops.specs.Pen.{new_pen, is_within_limits, within_limits};
+    ghost use Rattle.tree_ops.specs.Pen.{new_pen, counts_of, with_counts, is_within_limits, within_limits};
     ghost use Rattle.tree_ops.specs.Change.{next_label, named, labelled, unnamed, charged, count_if, counted_anew};
 
     pub const LABEL_LIMIT: u32 = 4_294_967_295;
@@ -50,7 +50,7 @@ impl Pen {
 
     /// The label that is drawn next.
     pub fn next_label(&self) -> Label
-        ensures { result ≡ next_label self.now }
+        ensures { result ≡ next_label (counts_of self.now) }
     {
         Label {
             task: self.task,
@@ -60,7 +60,7 @@ impl Pen {
 
     /// The pen with one more name, unless a count passes its limit.
     pub fn with_name(&self, at: &Path) -> Option<Pen>
-        ensures { result ≡ within_limits (named self.now at.now) }
+        ensures { result ≡ within_limits (with_counts self.now (named (counts_of self.now) at.now)) }
     {
         let pen = Pen {
             names: self.names.checked_add(1)?,
@@ -72,7 +72,7 @@ impl Pen {
 
     /// The pen with one more label, which stands for these bytes, unless a count passes its limit.
     pub fn with_label(&self, bytes: &[u8]) -> Option<Pen>
-        ensures { result ≡ within_limits (labelled self.now bytes.now) }
+        ensures { result ≡ within_limits (with_counts self.now (labelled (counts_of self.now) bytes.now)) }
     {
         let pen = Pen {
             next: self.next.checked_add(1)?,
@@ -84,7 +84,7 @@ impl Pen {
 
     /// The pen with one more name, and one more label that stands for these bytes, unless a count passes its limit.
     pub fn with_file(&self, at: &Path, bytes: &[u8]) -> Option<Pen>
-        ensures { result ≡ within_limits (labelled (named self.now at.now) bytes.now) }
+        ensures { result ≡ within_limits (with_counts self.now (labelled (named (counts_of self.now) at.now) bytes.now)) }
     {
         let pen = Pen {
             names: self.names.checked_add(1)?,
@@ -109,7 +109,7 @@ impl Pen {
 
     /// The pen with one name less.
     pub fn without_name(&self, at: &Path) -> Option<Pen>
-        ensures { result ≡ within_limits (unnamed self.now at.now) }
+        ensures { result ≡ within_limits (with_counts self.now (unnamed (counts_of self.now) at.now)) }
     {
         let pen = Pen {
             names: self.names.saturating_sub(1),
@@ -123,7 +123,7 @@ impl Pen {
 
     /// The pen with a label more, where one is drawn, and bytes written, unless a count passes its limit.
     pub fn charged(&self, draws: bool, bytes: usize) -> Option<Pen>
-        ensures { result ≡ within_limits (charged self.now (count_if draws 1) bytes) }
+        ensures { result ≡ within_limits (with_counts self.now (charged (counts_of self.now) (count_if draws 1) bytes)) }
     {
         let labels = if draws { 1 } else { 0 };
         let pen = Pen {
@@ -137,7 +137,7 @@ impl Pen {
     /// The pen where so many names, with so many bytes of texts, stand in place of others, unless a count passes its limit.
     pub fn counted_anew(&self, old: (usize, u128), new: (usize, u128)) -> Option<Pen>
         requires { new.1 < 2 ^ 127 }
-        ensures { result ≡ within_limits (counted_anew self.now old new) }
+        ensures { result ≡ within_limits (with_counts self.now (counted_anew (counts_of self.now) old new)) }
     {
         let names = (self.names as u128 + new.0 as u128).saturating_sub(old.0 as u128);
         let path_bytes = (self.path_bytes as u128 + new.1).saturating_sub(old.1);

@@ -14,7 +14,7 @@ use Rattle.tree_ops.specs.declared.entry.Label.{Label}
 use Rattle.tree_ops.specs.declared.entry.Contents.{Contents}
 use Rattle.tree_ops.specs.declared.entry.Node.{Node}
 use Rattle.tree_ops.specs.declared.entry.Node.TheVariants.{Dir, Link, File}
-use Rattle.tree_ops.specs.declared.pen.Pen.{Pen}
+use Rattle.tree_ops.specs.Pen.{Counts, counts_of}
 use Rattle.tree_ops.specs.Tree.{Tree, IsTree, label_cmp, node_at, is_dir, empty_tree}
 use Rattle.tree_ops.specs.Held.{IsHeld, IsSealed}
 use Rattle.tree_ops.proofs.Sound.{IsSound, of-sound}
@@ -66,7 +66,7 @@ sound = record {
 }
 
 -- each pen holds it
-pub IsHeld-empty : (tree : Tree) (sealed : Label → Bool) (pen : Pen) → tree ≡ empty_tree → IsHeld tree sealed pen
+pub IsHeld-empty : (tree : Tree) (sealed : Label → Bool) (pen : Counts) → tree ≡ empty_tree → IsHeld tree sealed pen
 IsHeld-empty tree sealed pen is = subst (λ (t : Tree). IsHeld t sealed pen) (sym is) (record {
   sound = of-sound empty_tree sound;
   own = λ label there. absurd (no_label label there);
@@ -76,10 +76,10 @@ IsHeld-empty tree sealed pen is = subst (λ (t : Tree). IsHeld t sealed pen) (sy
 -- the pen of a world holds its trees if all are empty
 pub IsHeldWorld-empty : {T : Type 0} (tree : T → Tree) (sealed : T → Label → Bool) (world : World T) → trees_data tree world.trees ≡ empty_trees → world.shown ≡ [] → IsHeldWorld tree sealed world
 IsHeldWorld-empty tree sealed world is none = record {
-  build = IsHeld-empty _ (sealed world.trees.build) world.pen (ap (λ (t : AreaTrees). t.build) is);
-  host = IsHeld-empty _ (sealed world.trees.host) world.pen (ap (λ (t : AreaTrees). t.host) is);
-  staging = IsHeld-empty _ (sealed world.trees.staging) world.pen (ap (λ (t : AreaTrees). t.staging) is);
-  target = IsHeld-empty _ (sealed world.trees.target) world.pen (ap (λ (t : AreaTrees). t.target) is);
+  build = IsHeld-empty _ (sealed world.trees.build) (counts_of world.pen) (ap (λ (t : AreaTrees). t.build) is);
+  host = IsHeld-empty _ (sealed world.trees.host) (counts_of world.pen) (ap (λ (t : AreaTrees). t.host) is);
+  staging = IsHeld-empty _ (sealed world.trees.staging) (counts_of world.pen) (ap (λ (t : AreaTrees). t.staging) is);
+  target = IsHeld-empty _ (sealed world.trees.target) (counts_of world.pen) (ap (λ (t : AreaTrees). t.target) is);
   shown = subst (All (IsReadable tree sealed)) (sym none) (All-nil (IsReadable tree sealed));
 }
 

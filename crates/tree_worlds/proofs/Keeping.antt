@@ -11,7 +11,7 @@ use Rattle.tree_ops.proofs.Outcomes.{after-changed}
 use Rattle.tree_ops.proofs.Foreign.{foreign-stays, is_filling}
 use Rattle.tree_ops.specs.declared.entry.Label.{Label}
 use Rattle.tree_worlds.specs.declared.reason.Reason.TheVariants.{Operand, Change as for_change}
-use Rattle.tree_worlds.specs.World.{WorldData, AreaTrees, may_change, is_asked, tree_in, with_tree, with_state, both_mapped}
+use Rattle.tree_worlds.specs.World.{WorldData, AreaTrees, may_change, is_asked, tree_in, with_tree, state_in, with_state, both_mapped}
 use Rattle.tree_worlds.specs.Program.{Program, Ran, run}
 use Rattle.tree_worlds.specs.declared.reason.CommandError.{CommandError}
 use Rattle.tree_worlds.specs.declared.reason.CommandError.TheVariants.{Failed, Memory}
@@ -88,9 +88,9 @@ then_contents one two last label (inl same) (inl stays) = inl (stays ∙ same)
 then_contents one two last label (inr gone) (inl stays) = inr (stays ∙ gone)
 then_contents one two last label first (inr gone) = inr gone
 
-Keeps-state : (area : Area) (change : Change) (old : WorldData) (state : State) → may_change old area ≡ true → is_filling change ≡ false → changed change (tree_in old.trees area, old.pen) ≡ Ok state → Keeps old (with_state old area state)
+Keeps-state : (area : Area) (change : Change) (old : WorldData) (state : State) → may_change old area ≡ true → is_filling change ≡ false → changed change (state_in old area) ≡ Ok state → Keeps old (with_state old area state)
 Keeps-state area change old state may few is =
-    let done = after-changed change (tree_in old.trees area, old.pen) state is in
+    let done = after-changed change (state_in old area) state is in
     let task = ap (λ (s : State). s.1.task) done.2 in
     let next = ap (λ (s : State). s.1.next) done.2 in
     let bytes = ap (λ (s : State). s.1.bytes) done.2 in
@@ -101,7 +101,7 @@ Keeps-state area change old state may few is =
       task = sym task;
       next = omega arith;
       bytes = omega arith;
-      contents = λ other label foreign. area_contents old.trees area other state.0 label (foreign-stays change (tree_in old.trees area, old.pen) state label few foreign is);
+      contents = λ other label foreign. area_contents old.trees area other state.0 label (foreign-stays change (state_in old area) state label few foreign is);
       limits = λ _. ap (λ (s : State). is_within_limits s.1) (sym done.2) ∙ done.1;
     }
 
@@ -119,7 +119,7 @@ IsKept-Keeps = record {
     limits = λ fits. two.limits (one.limits fits);
   };
   act = λ area change old new is.
-      let done = guarded (with_state old area) for_change (for_change ReadOnly) Operand new (may_change old area) (is_asked change) (changed change (tree_in old.trees area, old.pen)) is in
+      let done = guarded (with_state old area) for_change (for_change ReadOnly) Operand new (may_change old area) (is_asked change) (changed change (state_in old area)) is in
       subst (Keeps old) done.4 (Keeps-state area change old done.2 done.0 (small change done.1) done.3);
 }
 

@@ -6,6 +6,7 @@ use Rattle.tree_ops.specs.declared.change.ChangeFault.TheVariants.{Memory}
 use Rattle.br_path.specs.declared.area.Area.{Area}
 use Rattle.tree_ops.specs.Tree.{Tree, IsTree}
 use Rattle.tree_ops.specs.Change.{State}
+use Rattle.tree_ops.specs.Pen.{counts_of}
 use Rattle.tree_ops.specs.Held.{IsHeld, IsSealed}
 use Rattle.tree_worlds.specs.declared.world.World.{World}
 use Rattle.tree_worlds.specs.declared.world.ShownTree.{ShownTree}
@@ -21,10 +22,10 @@ pub record IsReadable {T : Type 0} (tree : T → Tree) (sealed : T → Label →
 
 -- each of its trees is held by its pen, and what it may read is readable
 pub record IsHeldWorld {T : Type 0} (tree : T → Tree) (sealed : T → Label → Bool) (world : World T) : Type 0 where
-  pub build : IsHeld (tree world.trees.build) (sealed world.trees.build) world.pen
-  pub host : IsHeld (tree world.trees.host) (sealed world.trees.host) world.pen
-  pub staging : IsHeld (tree world.trees.staging) (sealed world.trees.staging) world.pen
-  pub target : IsHeld (tree world.trees.target) (sealed world.trees.target) world.pen
+  pub build : IsHeld (tree world.trees.build) (sealed world.trees.build) (counts_of world.pen)
+  pub host : IsHeld (tree world.trees.host) (sealed world.trees.host) (counts_of world.pen)
+  pub staging : IsHeld (tree world.trees.staging) (sealed world.trees.staging) (counts_of world.pen)
+  pub target : IsHeld (tree world.trees.target) (sealed world.trees.target) (counts_of world.pen)
   pub shown : All (IsReadable tree sealed) world.shown
 
 -- what a change of one area's tree answers and leaves

@@ -3,8 +3,7 @@ use Rattle.std.specs.Prelude.{ℕ, Bool, true, false, not, List, [], ◌∷◌, 
 use Rattle.br_path.specs.Path.{Names}
 use Rattle.br_path.specs.declared.area.Area.{Area}
 use Rattle.br_path.specs.declared.area.Area.TheVariants.{Build, Host, Staging, Target}
-use Rattle.tree_ops.specs.declared.pen.Pen.{Pen}
-use Rattle.tree_ops.specs.Pen.{new_pen}
+use Rattle.tree_ops.specs.Pen.{Counts, counts_of, new_pen}
 use Rattle.tree_ops.specs.declared.change.ChangeFault.{ChangeFault}
 use Rattle.tree_ops.specs.declared.change.ChangeFault.TheVariants.{ReadOnly}
 use Rattle.tree_ops.specs.Tree.{Tree, empty_tree}
@@ -45,7 +44,7 @@ pub record ReadableTree : Type 0 where
 
 pub record WorldData : Type 0 where
   pub trees : AreaTrees
-  pub pen : Pen
+  pub pen : Counts
   pub owner : List ℕ
   pub folder : Names
   pub host : Bool
@@ -67,6 +66,10 @@ is_asked (MakeDir at mode) = nat_le mode 4095
 is_asked (Populate from) = false
 is_asked other = true
 
+-- the tree of an area, with the counts of the pen
+abbrev pub state_in : WorldData → Area → State
+state_in world area = (tree_in world.trees area, world.pen)
+
 abbrev pub with_state : WorldData → Area → State → WorldData
 with_state world area (tree, pen) = record world { trees = with_tree world.trees area tree; pen = pen }
 
@@ -83,7 +86,7 @@ abbrev pub acted : Area → Change → WorldData → Result WorldData Reason
 acted area change world =
     if not (may_change world area) then Err (for_change ReadOnly) else
     if not (is_asked change) then Err Operand else
-    put_back world area (changed change (tree_in world.trees area, world.pen))
+    put_back world area (changed change (state_in world area))
 
 -- what the code's world stands for, by what its trees stand for
 abbrev pub trees_data : {T : Type 0} → (T → Tree) → Trees T → AreaTrees
@@ -95,7 +98,7 @@ readable_data tree shown = record { task = shown.task; owner = shown.«package»
 abbrev pub world_data : {T : Type 0} → (T → Tree) → World T → WorldData
 world_data tree world = record {
   trees = trees_data tree world.trees;
-  pen = world.pen;
+  pen = counts_of world.pen;
   owner = world.«package»;
   folder = world.folder;
   host = world.host;
@@ -105,7 +108,7 @@ world_data tree world = record {
 
 -- the world of a task that has done nothing yet: empty trees, counts of 0, and nothing to read
 abbrev pub new_world : ℕ → List ℕ → Names → Bool → Bool → WorldData
-new_world task owner folder host prep = record { trees = empty_trees; pen = new_pen task; owner = owner; folder = folder; host = host; prep = prep; shown = [] }
+new_world task owner folder host prep = record { trees = empty_trees; pen = counts_of (new_pen task); owner = owner; folder = folder; host = host; prep = prep; shown = [] }
 
 abbrev pub readable : ℕ → List ℕ → Tree → ReadableTree
 readable task owner tree = record { task = task; owner = owner; tree = tree }

@@ -2,8 +2,9 @@
 ghost use Rattle.std.specs.Prelude.{◌≡◌, ◌≤◌};
 ghost use Rattle.tree_ops.specs.Change.{changed, Populate};
 ghost use Rattle.tree_ops.specs.Held.{IsSealed, IsForeign};
+ghost use Rattle.tree_ops.specs.Pen.{counts_of};
 ghost use Rattle.tree_ops.specs.Tree.{IsTree};
-ghost use Rattle.tree_worlds.specs.World.{world_data, tree_in, may_change};
+ghost use Rattle.tree_worlds.specs.World.{world_data, tree_in, state_in, may_change};
 ghost use Rattle.tree_worlds.specs.Program.{run, Ran, Act};
 ghost use Rattle.tree_worlds.specs.HeldWorld.{IsHeldWorld, IsPut, error_of};
 ghost use Rattle.tree_worlds.specs.Steps.{change_of, IsModest};
@@ -42,7 +43,7 @@ impl<T: TreeOps> World<T> {
     fn put(&mut self, alloc: Global, area: Area, step: Step<'_>) -> Result<(), ChangeFault>
         requires modest { IsModest step }
         requires held { IsHeldWorld T.tree T.sealed self.old }
-        ensures put { IsPut (changed (change_of step.entry) (tree_in (world_data T.tree self.old).trees area, self.old.pen)) area (world_data T.tree self.old) result (world_data T.tree self.new) }
+        ensures put { IsPut (changed (change_of step.entry) (state_in (world_data T.tree self.old) area)) area (world_data T.tree self.old) result (world_data T.tree self.new) }
         ensures held { IsHeldWorld T.tree T.sealed self.new }
     {
         let World { trees, pen, .. } = self;
@@ -90,9 +91,9 @@ impl<T: TreeOps> World<T> {
     pub fn fill(&mut self, alloc: Global, area: Area, from: &T) -> Result<(), ChangeFault>
         requires sound { IsTree (T.tree from.now) }
         requires sealed { IsSealed (T.tree from.now) (T.sealed from.now) }
-        requires foreign { IsForeign (T.tree from.now) self.old.pen }
+        requires foreign { IsForeign (T.tree from.now) (counts_of self.old.pen) }
         requires held { IsHeldWorld T.tree T.sealed self.old }
-        ensures put { IsPut (changed (Populate (T.tree from.now)) (tree_in (world_data T.tree self.old).trees area, self.old.pen)) area (world_data T.tree self.old) result (world_data T.tree self.new) }
+        ensures put { IsPut (changed (Populate (T.tree from.now)) (state_in (world_data T.tree self.old) area)) area (world_data T.tree self.old) result (world_data T.tree self.new) }
         ensures held { IsHeldWorld T.tree T.sealed self.new }
     {
         let World { trees, pen, .. } = self;

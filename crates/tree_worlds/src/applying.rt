@@ -1,6 +1,7 @@
 //! One step on one tree.
 ghost use Rattle.std.specs.Prelude.{◌≡◌, ◌≤◌};
-ghost use Rattle.tree_ops.specs.Change.{changed, IsChange};
+ghost use Rattle.tree_ops.specs.Change.{IsChange};
+ghost use Rattle.tree_ops.specs.Pen.{counts_of};
 ghost use Rattle.tree_ops.specs.Held.{IsHeld};
 ghost use Rattle.tree_worlds.specs.Steps.{change_of, IsModest};
 
@@ -16,9 +17,9 @@ pub fn apply<T: TreeOps>(
     pen: &mut Pen,
 ) -> Result<(), ChangeFault>
     requires modest { IsModest step }
-    requires held { IsHeld (T.tree tree.old) (T.sealed tree.old) pen.old }
-    ensures change { IsChange (changed (change_of step.entry) (T.tree tree.old, pen.old)) (T.tree tree.old, pen.old) result (T.tree tree.new, pen.new) }
-    ensures held { IsHeld (T.tree tree.new) (T.sealed tree.new) pen.new }
+    requires held { IsHeld (T.tree tree.old) (T.sealed tree.old) (counts_of pen.old) }
+    ensures change { IsChange T.copying (change_of step.entry) (T.tree tree.old, pen.old) result (T.tree tree.new, pen.new) }
+    ensures held { IsHeld (T.tree tree.new) (T.sealed tree.new) (counts_of pen.new) }
 {
     match step {
         Step::MakeFile(at, mode, bytes) => tree.make_file(alloc, at, mode, bytes, pen),

@@ -1,9 +1,9 @@
 use Rattle.std.proofs.Common.{refl}
 use Rattle.tree_ops.specs.Change.{AddName}
 use Rattle.tree_ops.proofs.Kept.{IsHeld-IsChange}
-use Rattle.tree_map.specs.Parts.{shown}
+use Rattle.tree_map.specs.Parts.{shown, uncounted}
 use Rattle.tree_map.proofs.ops.MapTreeTreeOps.link.Goals as goal
 
 pub returns-clause-held : goal.returns-clause-held
 returns-clause-held c =
-    IsHeld-IsChange (AddName c.args.old.now c.args.at.now) (shown c.args.self.now, c.args.pen.now) _ _ _ c.link-result.result c.names-names.ensures.path c.requires.held (λ label. refl) c.link-result.ensures
+    IsHeld-IsChange uncounted (AddName c.args.old.now c.args.at.now) (shown c.args.self.now, c.args.pen.now) _ _ _ c.link-result.result c.names-names.ensures.path c.requires.held (λ label. refl) c.link-result.ensures

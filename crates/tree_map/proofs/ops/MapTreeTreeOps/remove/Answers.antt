@@ -1,9 +1,9 @@
 use Rattle.std.proofs.Common.{refl}
 use Rattle.tree_ops.specs.Change.{Remove}
 use Rattle.tree_ops.proofs.Kept.{IsHeld-IsChange}
-use Rattle.tree_map.specs.Parts.{shown}
+use Rattle.tree_map.specs.Parts.{shown, uncounted}
 use Rattle.tree_map.proofs.ops.MapTreeTreeOps.remove.Goals as goal
 
 pub returns-clause-held : goal.returns-clause-held
 returns-clause-held c =
-    IsHeld-IsChange (Remove c.args.at.now) (shown c.args.self.now, c.args.pen.now) _ _ _ c.remove-result.result tt c.requires.held (λ label. refl) c.remove-result.ensures
+    IsHeld-IsChange uncounted (Remove c.args.at.now) (shown c.args.self.now, c.args.pen.now) _ _ _ c.remove-result.result tt c.requires.held (λ label. refl) c.remove-result.ensures

@@ -1,5 +1,5 @@
 use Rattle.std.proofs.Common.{ap, ◌∙◌, refl}
-use Rattle.tree_ops.specs.Pen.{within_limits}
+use Rattle.tree_ops.specs.Pen.{counts_of, with_counts, within_limits}
 use Rattle.tree_ops.specs.Change.{counted_anew}
 use Rattle.tree_map.specs.Parts.{shown}
 use Rattle.tree_map.proofs.Listed.{counted-anew}
@@ -7,5 +7,5 @@ use Rattle.tree_map.proofs.trees.MapTree.counted.Goals as goal
 
 pub returns : goal.returns
 returns c new is =
-    c.counted_anew.ensures ∙ (λ i. within_limits (counted_anew c.args.pen.now (c.measure.ensures.is i) (c.measure-2.ensures.is i)))
-    ∙ ap within_limits (counted-anew c.args.pen.now (shown c.args.self.now) new c.args.self.now.names c.args.names.now refl is c.measure.ensures.ordered c.measure-2.ensures.ordered)
+    c.counted_anew.ensures ∙ (λ i. within_limits (with_counts c.args.pen.now (counted_anew (counts_of c.args.pen.now) (c.measure.ensures.is i) (c.measure-2.ensures.is i))))
+    ∙ ap (λ counts. within_limits (with_counts c.args.pen.now counts)) (counted-anew (counts_of c.args.pen.now) (shown c.args.self.now) new c.args.self.now.names c.args.names.now refl is c.measure.ensures.ordered c.measure-2.ensures.ordered)

@@ -5,7 +5,7 @@ use Rattle.tree_map.proofs.trees.MapTree.link.Goals as goal
 
 pub returns-in-None : goal.returns-in-None
 returns-in-None c =
-    (linked-full (shown c.args.self.now, c.args.pen.now) c.args.old.now c.args.at.now c.in_ok-label.label c.in_ok-label.ensures c.in_ok-check_new_name.ensures (sym c.in-None.ensures), refl)
+    linked-full (shown c.args.self.now, c.args.pen.now) c.args.old.now c.args.at.now c.in_ok-label.label c.in_ok-label.ensures c.in_ok-check_new_name.ensures (sym c.in-None.ensures)
 
 pub returns : goal.returns
 returns c =

@@ -8,7 +8,7 @@ pub add_file-requires : goal.add_file-requires
 add_file-requires c = free (shown c.args.self.now) c.args.at.now c.in_ok-check_new_name.ensures
 
 pub returns-in-None : goal.returns-in-None
-returns-in-None c = (made_file-full (shown c.args.self.now, c.args.pen.now) c.args.at.now c.args.mode c.args.bytes.now c.in_ok-check_new_name.ensures (sym c.in-None.ensures), refl)
+returns-in-None c = made_file-full (shown c.args.self.now, c.args.pen.now) c.args.at.now c.args.mode c.args.bytes.now c.in_ok-check_new_name.ensures (sym c.in-None.ensures)
 
 pub returns : goal.returns
 returns c =

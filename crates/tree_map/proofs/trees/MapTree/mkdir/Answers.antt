@@ -4,7 +4,7 @@ use Rattle.tree_map.proofs.Made.{made_dir-ok, made_dir-full}
 use Rattle.tree_map.proofs.trees.MapTree.mkdir.Goals as goal
 
 pub returns-in-None : goal.returns-in-None
-returns-in-None c = (made_dir-full (shown c.args.self.now, c.args.pen.now) c.args.at.now c.args.mode c.in_ok-check_new_name.ensures (sym c.in-None.ensures), refl)
+returns-in-None c = made_dir-full (shown c.args.self.now, c.args.pen.now) c.args.at.now c.args.mode c.in_ok-check_new_name.ensures (sym c.in-None.ensures)
 
 pub returns : goal.returns
 returns c =

@@ -14,7 +14,7 @@ pub returns-in-None : goal.returns-in-None
 returns-in-None c =
     let all : Tree = over (shown c.args.self.now) (shown c.args.from.now) in
     let names : names_of c.in_ok-names.names ≡ all.names = c.in_ok-names.ensures ∙ laid-listed path_total path_same c.args.from.now.names.entries c.args.self.now.names.entries (λ at. not (is_hidden (shown c.args.from.now) at)) in
-    (populated-full (shown c.args.self.now, c.args.pen.now) (shown c.args.from.now) (sym (c.counted.ensures all (sym names)) ∙ c.in-None.is), refl)
+    populated-full (shown c.args.self.now, c.args.pen.now) (shown c.args.from.now) (sym (c.counted.ensures all (sym names)) ∙ c.in-None.is)
 
 pub returns : goal.returns
 returns c =

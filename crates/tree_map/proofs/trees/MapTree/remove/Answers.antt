@@ -7,7 +7,7 @@ use Rattle.tree_map.proofs.trees.MapTree.remove.Goals as goal
 pub returns-in-None : goal.returns-in-None
 returns-in-None c =
     let other : is_path c.args.at.now [] ≡ false = ap (is_path c.args.at.now) (sym c.root.ensures) ∙ sym c.is_path-2.ensures ∙ c.if-is_path.false in
-    (removed-full (shown c.args.self.now, c.args.pen.now) c.args.at.now other c.in_ok-gone.ensures.0 (sym c.in-None.ensures), refl)
+    removed-full (shown c.args.self.now, c.args.pen.now) c.args.at.now other c.in_ok-gone.ensures.0 (sym c.in-None.ensures)
 
 pub returns : goal.returns
 returns c =

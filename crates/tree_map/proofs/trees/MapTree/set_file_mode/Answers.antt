@@ -1,5 +1,5 @@
 use Rattle.std.proofs.Common.{sym, refl, not, ap, ◌==◌, ◌∙◌}
-use Rattle.tree_ops.specs.Pen.{within_limits}
+use Rattle.tree_ops.specs.Pen.{counts_of, with_counts, within_limits}
 use Rattle.tree_ops.specs.Change.{with_contents, charged, count_if}
 use Rattle.tree_map.specs.Parts.{shown}
 use Rattle.tree_map.proofs.Made.{mode_set-ok, mode_set-full}
@@ -8,13 +8,13 @@ use Rattle.tree_map.proofs.trees.MapTree.set_file_mode.Goals as goal
 pub returns-in-None : goal.returns-in-None
 returns-in-None c at there =
     let draws = not (c.args.label.task == c.args.pen.now.task) in
-    let size = ap (λ n. within_limits (charged c.args.pen.now (count_if draws 1) n)) c.copied_len-copied.ensures.len in
-    (mode_set-full (shown c.args.self.now, c.args.pen.now) at c.args.mode c.args.label draws there refl (sym size ∙ sym c.in-None.ensures), refl)
+    let size = ap (λ n. within_limits (with_counts c.args.pen.now (charged (counts_of c.args.pen.now) (count_if draws 1) n))) c.copied_len-copied.ensures.len in
+    mode_set-full (shown c.args.self.now, c.args.pen.now) at c.args.mode c.args.label draws there refl (sym size ∙ sym c.in-None.ensures)
 
 pub returns : goal.returns
 returns c at there =
     let draws = not (c.args.label.task == c.args.pen.now.task) in
-    let size = ap (λ n. within_limits (charged c.args.pen.now (count_if draws 1) n)) c.copied_len-copied.ensures.len in
+    let size = ap (λ n. within_limits (with_counts c.args.pen.now (charged (counts_of c.args.pen.now) (count_if draws 1) n))) c.copied_len-copied.ensures.len in
     let made = c.in_ok-put_contents.ensures.ok
-    ∙ (λ i. with_contents (shown c.args.self.now, c.args.pen.now) c.args.label (record { mode = c.args.mode; bytes = (c.in_ok-from_slice.ensures ∙ c.bytes_of.ensures) i })) in
+    ∙ (λ i. with_contents (shown c.args.self.now, counts_of c.args.pen.now) c.args.label (record { mode = c.args.mode; bytes = (c.in_ok-from_slice.ensures ∙ c.bytes_of.ensures) i })) in
     mode_set-ok (shown c.args.self.now, c.args.pen.now) at c.args.mode c.args.label (shown c.put_contents.new.self) c.in-Some.after draws there refl (sym size ∙ sym c.in-Some.ensures) made

@@ -5,7 +5,7 @@ use Rattle.tree_map.proofs.Made.{made_link-ok, made_link-full}
 use Rattle.tree_map.proofs.trees.MapTree.symlink.Goals as goal
 
 pub returns-in-None : goal.returns-in-None
-returns-in-None c = (made_link-full (shown c.args.self.now, c.args.pen.now) c.args.at.now c.args.text.now c.in_ok-check_new_name.ensures (sym c.in-None.ensures), refl)
+returns-in-None c = made_link-full (shown c.args.self.now, c.args.pen.now) c.args.at.now c.args.text.now c.in_ok-check_new_name.ensures (sym c.in-None.ensures)
 
 pub returns : goal.returns
 returns c =
