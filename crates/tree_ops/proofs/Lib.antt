@@ -3,6 +3,7 @@ pub mod Orders
 pub mod Inserts
 pub mod Outcomes
 pub mod Counts
+pub mod Counting
 pub mod Changed
 pub mod Foreign
 pub mod Finds

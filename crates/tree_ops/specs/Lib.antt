@@ -4,3 +4,4 @@ pub mod Change
 pub mod Walk
 pub mod Held
 pub mod Walking
+pub mod Laws

@@ -3,6 +3,7 @@
 
 mod change;
 mod entry;
+mod laws;
 mod ops;
 mod pen;
 mod text;
@@ -10,6 +11,7 @@ mod walk;
 
 pub use change::ChangeFault;
 pub use entry::{Contents, Entry, Label, Node};
+pub use laws::counts_move_alike;
 pub use ops::{TreeOps, changes_keep_trees};
 pub use pen::Pen;
 pub use text::{LENGTH_LIMIT, rooted_length};

@@ -1,13 +1,14 @@
 -- A tree with the root alone.
-use Rattle.std.proofs.Common.{ℕ, ◌≡◌, ◌≤◌, Bool, true, false, cond, All, List, [], ◌∷◌, ◌++◌, Some, refl, sym, ap, subst, ◌∙◌, arith}
+use Rattle.std.proofs.Common.{ℕ, ◌+◌, ◌≡◌, ◌≤◌, length, Bool, true, false, cond, All, List, [], ◌∷◌, ◌++◌, Some, refl, sym, ap, subst, ◌∙◌, arith}
 use Rattle.std.specs.FinMap as fin
+use Rattle.std.specs.List.{sum_by}
 use Rattle.std.specs.Ordering.{eq_by_cmp}
 use Rattle.std.specs.Option.{is_some}
 use Rattle.std.specs.Cmp.{Equal-is}
 use Rattle.std.proofs.lemmas.Bool.{true≢false}
 use Rattle.std.proofs.lemmas.List.Elements.{All-nil, All-cons, All-append}
 use Rattle.std.proofs.lemmas.Option.{same_Some}
-use Rattle.br_path.specs.Path.{Names, IsName, IsPath, path_cmp}
+use Rattle.br_path.specs.Path.{Names, IsName, IsPath, path_cmp, rooted_text}
 use Rattle.br_path.proofs.PathOrder.{path_total, path_same}
 use Rattle.br_path.proofs.Reading.{append-nonempty}
 use Rattle.tree_ops.specs.declared.entry.Label.{Label}
@@ -16,11 +17,13 @@ use Rattle.tree_ops.specs.declared.entry.Node.{Node}
 use Rattle.tree_ops.specs.declared.entry.Node.TheVariants.{Dir, Link, File}
 use Rattle.tree_ops.specs.Pen.{Counts, counts_of}
 use Rattle.tree_ops.specs.Tree.{Tree, IsTree, label_cmp, node_at, is_dir, empty_tree}
+use Rattle.tree_ops.specs.Change.{text_bytes}
 use Rattle.tree_ops.specs.Held.{IsHeld, IsSealed}
+use Rattle.tree_ops.proofs.Inserts.{sum_by-entries_insert, len-insert_new}
 use Rattle.tree_ops.proofs.Sound.{IsSound, of-sound}
 use Rattle.tree_worlds.specs.declared.world.World.{World}
 use Rattle.tree_worlds.specs.World.{AreaTrees, trees_data, empty_trees}
-use Rattle.tree_worlds.specs.HeldWorld.{IsHeldWorld, IsReadable}
+use Rattle.tree_worlds.specs.HeldWorld.{IsHeldWorld, IsReadable, names_in, texts_in}
 use Rattle.tree_worlds.specs.declared.world.ShownTree.{ShownTree}
 
 root_alone : (at : Names) (node : Node) → node_at empty_tree at ≡ Some node → (at ≡ []) × (node ≡ Dir 493)
@@ -73,14 +76,33 @@ IsHeld-empty tree sealed pen is = subst (λ (t : Tree). IsHeld t sealed pen) (sy
   fresh = λ label there own. absurd (no_label label there);
 })
 
+-- it has one name, whose text has no bytes
+root-len : fin.len empty_tree.names ≡ 1
+root-len = len-insert_new path_total (fin.empty {R = path_cmp}) [] (Dir 493) (fin.get-empty path_cmp []) ∙ ap (λ n. n + 1) (fin.len-empty path_cmp Node)
+
+root-text : text_bytes empty_tree ≡ 0
+root-text =
+    sum_by-entries_insert path_total (λ entry. length (rooted_text entry.0)) (fin.empty {R = path_cmp}) [] (Dir 493) (fin.get-empty path_cmp [])
+    ∙ ap (λ (es : List (Names × Node)). 0 + sum_by (λ entry. length (rooted_text entry.0)) es) no_entries
+  where
+    no_entries : fin.entries (fin.empty {X = Node} {R = path_cmp}) ≡ []
+    no_entries = none (fin.entries (fin.empty {X = Node} {R = path_cmp})) (sym (fin.len-entries (fin.empty {X = Node} {R = path_cmp})) ∙ fin.len-empty path_cmp Node)
+      where
+        none : (es : List (Names × Node)) → length es ≡ 0 → es ≡ []
+        none [] is = refl
+        none (e ∷ es) is = absurd (omega arith)
+
 -- the pen of a world holds its trees if all are empty
-pub IsHeldWorld-empty : {T : Type 0} (tree : T → Tree) (sealed : T → Label → Bool) (world : World T) → trees_data tree world.trees ≡ empty_trees → world.shown ≡ [] → IsHeldWorld tree sealed world
-IsHeldWorld-empty tree sealed world is none = record {
+pub IsHeldWorld-empty : {T : Type 0} (tree : T → Tree) (sealed : T → Label → Bool) (world : World T) → trees_data tree world.trees ≡ empty_trees → world.shown ≡ [] → world.pen.names ≡ 0 → world.pen.path_bytes ≡ 0
+    → IsHeldWorld tree sealed world
+IsHeldWorld-empty tree sealed world is none unnamed untold = record {
   build = IsHeld-empty _ (sealed world.trees.build) (counts_of world.pen) (ap (λ (t : AreaTrees). t.build) is);
   host = IsHeld-empty _ (sealed world.trees.host) (counts_of world.pen) (ap (λ (t : AreaTrees). t.host) is);
   staging = IsHeld-empty _ (sealed world.trees.staging) (counts_of world.pen) (ap (λ (t : AreaTrees). t.staging) is);
   target = IsHeld-empty _ (sealed world.trees.target) (counts_of world.pen) (ap (λ (t : AreaTrees). t.target) is);
   shown = subst (All (IsReadable tree sealed)) (sym none) (All-nil (IsReadable tree sealed));
+  names = ap names_in is ∙ (let one = root-len in let four : names_in empty_trees ≡ world.pen.names + 4 = omega arith in four);
+  path_bytes = ap texts_in is ∙ (let zero = root-text in let all : texts_in empty_trees ≡ world.pen.path_bytes = omega arith in all);
 }
 
 -- one more readable tree

@@ -4,3 +4,6 @@ pub mod Keeping
 pub mod Empty
 pub mod Naming
 pub mod Refusals
+pub mod Replacing
+pub mod Walking
+pub mod Showing

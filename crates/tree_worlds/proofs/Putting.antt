@@ -24,7 +24,7 @@ with_tree-same trees Host = refl
 with_tree-same trees Staging = refl
 with_tree-same trees Target = refl
 
-put_same : (old : WorldData) (area : Area) (state : State) → state ≡ state_in old area → with_state old area state ≡ old
+pub put_same : (old : WorldData) (area : Area) (state : State) → state ≡ state_in old area → with_state old area state ≡ old
 put_same old area state same = ap (with_state old area) same ∙ ap (λ trees. record old { trees = trees }) (with_tree-same old.trees area)
 
 -- a change of the area's tree, with the pen, is one of the world

@@ -8,7 +8,7 @@ use Rattle.br_path.specs.Text.{is_text}
 use Rattle.br_path.specs.Files.{FileMap}
 use Rattle.br_path.specs.declared.area.Area.{Area}
 use Rattle.br_path.specs.declared.area.Area.TheVariants.{Build, Host, Staging, Target}
-use Rattle.tree_ops.specs.Walk.{is_filled, begins_at_root}
+use Rattle.tree_ops.specs.Walk.{IsWalk, is_filled, begins_at_root}
 use Rattle.tree_ops.specs.Change.{is_below, is_at_or_below}
 use Rattle.tree_ops.specs.declared.change.ChangeFault.TheVariants.{Outside, Absent}
 use Rattle.tree_worlds.specs.declared.operand.Operand.{Operand}
@@ -137,3 +137,9 @@ operand_of world files word =
 -- the same as a call's answer
 abbrev pub told : Named → Result Operand CommandError
 told = both_mapped (λ operand. operand) Failed
+
+-- a walk has only bytes that a walk may have
+abbrev pub HasWalk : Operand → Type 0
+HasWalk (Input path) = Unit {0}
+HasWalk (Place area walk) = IsWalk walk
+HasWalk (Readable task walk) = IsWalk walk

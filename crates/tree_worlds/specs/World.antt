@@ -1,5 +1,5 @@
 -- The world of one task as data: its trees, its pen, its rights, and the build trees that it may read.
-use Rattle.std.specs.Prelude.{ℕ, Bool, true, false, not, List, [], ◌∷◌, ◌++◌, map, Result, Ok, Err, nat_le, ◌&&◌, if◌then◌else◌}
+use Rattle.std.specs.Prelude.{ℕ, Bool, true, false, not, ◌==◌, List, [], ◌∷◌, ◌++◌, map, Option, Some, None, Result, Ok, Err, nat_le, ◌&&◌, if◌then◌else◌}
 use Rattle.br_path.specs.Path.{Names}
 use Rattle.br_path.specs.declared.area.Area.{Area}
 use Rattle.br_path.specs.declared.area.Area.TheVariants.{Build, Host, Staging, Target}
@@ -116,3 +116,8 @@ readable task owner tree = record { task = task; owner = owner; tree = tree }
 -- one more readable build tree, after the others
 abbrev pub shown_too : WorldData → ReadableTree → WorldData
 shown_too world more = record world { shown = world.shown ++ more ∷ [] }
+
+-- the readable build tree of a task
+abbrev pub shown_tree : List ReadableTree → ℕ → Option Tree
+shown_tree [] task = None
+shown_tree (shown ∷ more) task = if shown.task == task then Some shown.tree else shown_tree more task

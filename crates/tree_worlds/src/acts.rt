@@ -1,12 +1,12 @@
 //! The changes of a world, within its task's rights.
-ghost use Rattle.std.specs.Prelude.{◌≡◌, ◌≤◌};
+ghost use Rattle.std.specs.Prelude.{◌≡◌, ◌≤◌, OnErr};
 ghost use Rattle.tree_ops.specs.Change.{changed, Populate};
 ghost use Rattle.tree_ops.specs.Held.{IsSealed, IsForeign};
 ghost use Rattle.tree_ops.specs.Pen.{counts_of};
 ghost use Rattle.tree_ops.specs.Tree.{IsTree};
-ghost use Rattle.tree_worlds.specs.World.{world_data, tree_in, state_in, may_change};
+ghost use Rattle.tree_worlds.specs.World.{world_data, state_in, may_change};
 ghost use Rattle.tree_worlds.specs.Program.{run, Ran, Act};
-ghost use Rattle.tree_worlds.specs.HeldWorld.{IsHeldWorld, IsPut, error_of};
+ghost use Rattle.tree_worlds.specs.HeldWorld.{IsHeldWorld, IsPut, IsAsBefore, error_of};
 ghost use Rattle.tree_worlds.specs.Steps.{change_of, IsModest};
 
 use crate::applying::apply;
@@ -45,6 +45,7 @@ impl<T: TreeOps> World<T> {
         requires held { IsHeldWorld T.tree T.sealed self.old }
         ensures put { IsPut (changed (change_of step.entry) (state_in (world_data T.tree self.old) area)) area (world_data T.tree self.old) result (world_data T.tree self.new) }
         ensures held { IsHeldWorld T.tree T.sealed self.new }
+        ensures refused { OnErr result (IsAsBefore T.tree self.old self.new) }
     {
         let World { trees, pen, .. } = self;
         match area {
@@ -55,12 +56,13 @@ impl<T: TreeOps> World<T> {
         }
     }
 
-    /// Changes the tree of an area, where the task may.
+    /// Changes the tree of an area, where the task may. After a refusal the world is as before.
     pub fn act(&mut self, alloc: Global, area: Area, step: Step<'_>) -> Result<(), CommandError>
         requires modest { IsModest step }
         requires held { IsHeldWorld T.tree T.sealed self.old }
         ensures ran { Ran (run (Act area (change_of step.entry)) (world_data T.tree self.old)) result (world_data T.tree self.new) }
         ensures held { IsHeldWorld T.tree T.sealed self.new }
+        ensures refused { OnErr result (IsAsBefore T.tree self.old self.new) }
     {
         if !self.may_change(area) {
             return Err(CommandError::Failed(Reason::Change(ChangeFault::ReadOnly)));
@@ -73,21 +75,7 @@ impl<T: TreeOps> World<T> {
 }
 
 impl<T: TreeOps> World<T> {
-    /// The tree of an area.
-    pub fn tree(&self, area: Area) -> &T
-        ensures { T.tree result.now ≡ tree_in (world_data T.tree self.now).trees area }
-    {
-        match area {
-            Area::Build => &self.trees.build,
-            Area::Host => &self.trees.host,
-            Area::Staging => &self.trees.staging,
-            Area::Target => &self.trees.target,
-        }
-    }
-}
-
-impl<T: TreeOps> World<T> {
-    /// Lays a sealed tree over the tree of an area, whatever the task's rights.
+    /// Lays a sealed tree over the tree of an area, whatever the task's rights. After a refusal the world is as before.
     pub fn fill(&mut self, alloc: Global, area: Area, from: &T) -> Result<(), ChangeFault>
         requires sound { IsTree (T.tree from.now) }
         requires sealed { IsSealed (T.tree from.now) (T.sealed from.now) }
@@ -95,6 +83,7 @@ impl<T: TreeOps> World<T> {
         requires held { IsHeldWorld T.tree T.sealed self.old }
         ensures put { IsPut (changed (Populate (T.tree from.now)) (state_in (world_data T.tree self.old) area)) area (world_data T.tree self.old) result (world_data T.tree self.new) }
         ensures held { IsHeldWorld T.tree T.sealed self.new }
+        ensures refused { OnErr result (IsAsBefore T.tree self.old self.new) }
     {
         let World { trees, pen, .. } = self;
         match area {

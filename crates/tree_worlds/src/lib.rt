@@ -8,6 +8,7 @@ mod input;
 mod operand;
 mod reason;
 mod step;
+mod trees;
 mod world;
 
 pub use acts::error_of;

@@ -9,7 +9,7 @@ ghost use Rattle.br_path.specs.Gives.{Gives};
 ghost use Rattle.tree_ops.specs.Walk.{begins_at_root};
 ghost use Rattle.tree_worlds.specs.World.{world_data};
 ghost use Rattle.tree_worlds.specs.Naming.{shown_task};
-ghost use Rattle.tree_worlds.specs.Operand.{up_to, first_of, behind, area_of, in_area, readable_of, in_readable, in_build, in_output, place_of, is_operand, operand_of, told};
+ghost use Rattle.tree_worlds.specs.Operand.{up_to, first_of, behind, area_of, in_area, readable_of, in_readable, in_build, in_output, place_of, is_operand, operand_of, told, HasWalk};
 ghost use Rattle.tree_worlds.specs.declared.reason.CommandError.TheVariants.{Memory as no_memory};
 
 use crate::acts::error_of;
@@ -40,6 +40,8 @@ impl<T: TreeOps> World<T> {
     /// prep task, a patch dependency. Any other word names a file or folder of the input, in the package's folder or in
     /// `board`; `.` in it is dropped. What is elsewhere, or has `..`, is `Outside`; an input that isn't there is `Absent`.
     ///
+    /// The walk of a place can be given to `TreeOps::resolve`.
+    ///
     /// The time is that of the word and of a look-up, and for a build place also that of the readable trees.
     pub fn operand(
         &self,
@@ -47,6 +49,13 @@ impl<T: TreeOps> World<T> {
         files: &Files,
         word: &[u8],
     ) -> Result<Operand, CommandError>
+        ensures named { Gives no_memory (told (operand_of (world_data T.tree self.now) files.now word.now)) result }
+        ensures walk { IfOk result HasWalk }
+    {
+        self.named(alloc, files, word)
+    }
+
+    fn named(&self, alloc: Global, files: &Files, word: &[u8]) -> Result<Operand, CommandError>
         ensures { Gives no_memory (told (operand_of (world_data T.tree self.now) files.now word.now)) result }
     {
         if !is_operand(word) {

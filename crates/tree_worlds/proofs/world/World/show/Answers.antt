@@ -12,4 +12,6 @@ returns-clause-held g c =
       staging = held.staging;
       target = held.target;
       shown = IsReadable-more g.T.TreeOps.tree g.T.TreeOps.sealed _ c.push.new.self.items _ held.shown c.requires.sound c.requires.sealed c.in_ok-push.ensures.items;
+      names = held.names;
+      path_bytes = held.path_bytes;
     }
