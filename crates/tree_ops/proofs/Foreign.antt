@@ -38,7 +38,7 @@ stays_on : (old mid new : FinMap label_cmp Contents) (label : Label) → fin.get
 stays_on old mid new label same (inl stays) = inl (stays ∙ same)
 stays_on old mid new label same (inr goes) = inr goes
 
-next_own : (pen : Counts) → is_own pen (next_label pen) ≡ true
+pub next_own : (pen : Counts) → is_own pen (next_label pen) ≡ true
 next_own pen = grind (arith, nat_tests)
 
 -- which of two trees has the labels

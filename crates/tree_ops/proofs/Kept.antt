@@ -27,7 +27,7 @@ use Rattle.tree_ops.proofs.Outcomes.{after-changed}
 use Rattle.tree_ops.proofs.Faults.{both_none, no_fault, not_path, folder-no_fault, nothing, something, bare-remove, bare-replace}
 use Rattle.tree_ops.proofs.Sound.{IsSound, sound-of, of-sound, is_there}
 use Rattle.tree_ops.proofs.Growing.{sound-grown, sound-with_dir, sound-in_place, sound-given_way}
-use Rattle.tree_ops.proofs.Moving.{sound-without, sound-moved}
+use Rattle.tree_ops.proofs.Moving.{IsMove, sound-without, sound-moved}
 use Rattle.tree_ops.proofs.Laying.{sound-over, came-label}
 
 -- 1. New names.
@@ -143,35 +143,36 @@ no_longer n is = grind (arith, nat_tests)
 second_false : (a b : Bool) → (a && b) ≡ false → a ≡ true → b ≡ false
 second_false a b none first = sym (ap (λ a. a && b) first) ∙ none
 
-sound-renamed : (tree : Tree) → IsSound tree → (old at : Names) → IsPath at → rename_fault tree old at ≡ None → IsSound (renamed tree old at)
-sound-renamed tree sound old at legal none =
+abbrev elsewhere_fault : Tree → Names → Names → Option ChangeFault
+elsewhere_fault tree old at = option_or (fault_if (is_below old at) Loop) (option_or (parent_fault tree (parent_of at)) (option_or (replace_fault tree at (node_at tree at) (node_at tree old)) (fault_if (grows_too_long tree old at) TooLong)))
+
+-- what a move's faults come to
+pub move-renamed : (tree : Tree) → IsSound tree → (old at : Names) → rename_fault tree old at ≡ None → is_path old at ≡ false → IsMove tree old at
+move-renamed tree sound old at none other =
     let first = both_none (fault_if (is_path old [] || is_path at []) Outside) _ none in
     let roots = either (is_path old []) (is_path at []) (no_fault _ _ first.0) in
     let second = both_none (fault_if (is_none (node_at tree old)) Absent) _ first.1 in
-    by roots (something (node_at tree old) (no_fault _ _ second.0)) (is_path old at) refl second.1
-  where
-    there_is : (o : Option Node) (node : Node) → o ≡ Some node → (f : Option Node → Option ChangeFault) → f o ≡ None → f (Some node) ≡ None
-    there_is o node same f none = ap f (sym same) ∙ none
+    let there = something (node_at tree old) (no_fault _ _ second.0) in
+    let loop = both_none (fault_if (is_below old at) Loop) _ (sym (ap (λ b. cond b None (elsewhere_fault tree old at)) other) ∙ second.1) in
+    let parent = both_none (parent_fault tree (parent_of at)) _ loop.1 in
+    let replaced = both_none (replace_fault tree at (node_at tree at) (node_at tree old)) (fault_if (grows_too_long tree old at) TooLong) parent.1 in
+    let grows = no_fault (grows_too_long tree old at) TooLong replaced.1 in
+    record {
+      not_root = not_path old [] roots.0;
+      not_to_root = not_path at [] roots.1;
+      outside = both_false (is_path old at) (is_below old at) other (no_fault (is_below old at) Loop loop.0);
+      folder = folder-no_fault tree at parent.0;
+      bare = bare-replace tree sound at (node_at tree at) there.0 refl (ap (replace_fault tree at (node_at tree at)) (sym there.1) ∙ replaced.0);
+      short = λ p node stands below. no_longer (length (rooted_text (moved_path old at p)))
+          (second_false (is_at_or_below old p) (is_too_long (moved_path old at p)) (get-none path_total path_same (λ entry. is_at_or_below old entry.0 && is_too_long (moved_path old at entry.0)) tree.names p node grows stands) below);
+    }
 
-    by : ((is_path old [] ≡ false) × (is_path at [] ≡ false)) → ((node : Node) × (node_at tree old ≡ Some node)) → (b : Bool) → is_path old at ≡ b
-        → cond b None (option_or (fault_if (is_below old at) Loop) (option_or (parent_fault tree (parent_of at)) (option_or (replace_fault tree at (node_at tree at) (node_at tree old)) (fault_if (grows_too_long tree old at) TooLong)))) ≡ None
-        → IsSound (cond b tree (record { names = moved tree.names old at; labels = dropped_unused (moved tree.names old at) (label_of (node_at tree at)) tree.labels }))
-    by roots there true same none = sound
-    by roots there false other none =
-        let loop = both_none (fault_if (is_below old at) Loop) _ none in
-        let parent = both_none (parent_fault tree (parent_of at)) _ loop.1 in
-        let replaced = both_none (replace_fault tree at (node_at tree at) (node_at tree old)) (fault_if (grows_too_long tree old at) TooLong) parent.1 in
-        let grows = no_fault (grows_too_long tree old at) TooLong replaced.1 in
-        sound-moved tree old at sound (record {
-          not_root = not_path old [] roots.0;
-          not_to_root = not_path at [] roots.1;
-          outside = both_false (is_path old at) (is_below old at) other (no_fault (is_below old at) Loop loop.0);
-          legal = legal;
-          folder = folder-no_fault tree at parent.0;
-          bare = bare-replace tree sound at (node_at tree at) there.0 refl (there_is (node_at tree old) there.0 there.1 (replace_fault tree at (node_at tree at)) replaced.0);
-          short = λ p node stands below. no_longer (length (rooted_text (moved_path old at p)))
-              (second_false (is_at_or_below old p) (is_too_long (moved_path old at p)) (get-none path_total path_same (λ entry. is_at_or_below old entry.0 && is_too_long (moved_path old at entry.0)) tree.names p node grows stands) below);
-        })
+sound-renamed : (tree : Tree) → IsSound tree → (old at : Names) → IsPath at → rename_fault tree old at ≡ None → IsSound (renamed tree old at)
+sound-renamed tree sound old at legal none = by (is_path old at) refl
+  where
+    by : (b : Bool) → is_path old at ≡ b → IsSound (cond b tree (record { names = moved tree.names old at; labels = dropped_unused (moved tree.names old at) (label_of (node_at tree at)) tree.labels }))
+    by true same = sound
+    by false other = sound-moved tree old at sound (move-renamed tree sound old at none other) legal
 
 -- 4. Every change.
 

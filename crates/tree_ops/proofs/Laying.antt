@@ -30,7 +30,7 @@ first_or : {A : Type 0} (a b : Option A) (x : A) → option_or a b ≡ Some x �
 first_or None b x is = inr (refl, is)
 first_or (Some y) b x is = inl is
 
-chosen : {A : Type 0} (b : Bool) (o : Option A) (x : A) → cond b o None ≡ Some x → (b ≡ true) × (o ≡ Some x)
+pub chosen : {A : Type 0} (b : Bool) (o : Option A) (x : A) → cond b o None ≡ Some x → (b ≡ true) × (o ≡ Some x)
 chosen true o x is = (refl, is)
 chosen false o x is = cc
 
@@ -43,28 +43,38 @@ neither true b is = absurd (true≢false is)
 neither false true is = absurd (true≢false is)
 neither false false is = (refl, refl)
 
+turned : {A : Type 0} (b : Bool) (x y : A) → cond (not b) x y ≡ cond b y x
+turned true x y = refl
+turned false x y = refl
+
+module _ (low high : Tree) where
+  -- what stands at a path: what the high one has, else what the low one has and the high one doesn't hide
+  pub get-over : (q : Names) → node_at (over low high) q ≡ option_or (node_at high q) (cond (not (is_hidden high q)) (node_at low q) None)
+  get-over q = get-laid path_total path_same (fin.retain_keys low.names (λ at. not (is_hidden high at))) high.names q ∙ ap (option_or (node_at high q)) (get-kept path_total path_same low.names (λ at. not (is_hidden high at)) q)
+
+  -- the same by the test itself
+  pub over-paths : (q : Names) → node_at (over low high) q ≡ option_or (node_at high q) (cond (is_hidden high q) None (node_at low q))
+  over-paths q = get-over q ∙ ap (option_or (node_at high q)) (turned (is_hidden high q) (node_at low q) None)
+
+  -- what a label stands for
+  pub label-over : (label : Label) → fin.get (over low high).labels label ≡ cond (is_used (over low high).names label) (option_or (fin.get high.labels label) (fin.get low.labels label)) None
+  label-over label = get-kept label_total label_same (laid low.labels high.labels) (is_used (over low high).names) label ∙ ap (λ o. cond (is_used (over low high).names label) o None) (get-laid label_total label_same low.labels high.labels label)
+
 module _ (low high : Tree) (l : IsSound low) (h : IsSound high) where
   abbrev all : Tree
   all = over low high
 
-  abbrev shows : Names → Bool
-  shows at = not (is_hidden high at)
-
-  -- what stands at a path: what the high one has, else what the low one has and the high one doesn't hide
-  pub get-over : (q : Names) → node_at all q ≡ option_or (node_at high q) (cond (shows q) (node_at low q) None)
-  get-over q = get-laid path_total path_same (fin.retain_keys low.names shows) high.names q ∙ ap (option_or (node_at high q)) (get-kept path_total path_same low.names shows q)
-
   came-over : (q : Names) (n : Node) → node_at all q ≡ Some n → (node_at high q ≡ Some n) ⊎ ((node_at high q ≡ None) × (is_hidden high q ≡ false) × (node_at low q ≡ Some n))
-  came-over q n there = elim (first_or (node_at high q) (cond (shows q) (node_at low q) None) n (sym (get-over q) ∙ there)) [
+  came-over q n there = elim (first_or (node_at high q) (cond (not (is_hidden high q)) (node_at low q) None) n (sym (get-over low high q) ∙ there)) [
     | inl above ↦ inl above
-    | inr below ↦ let kept = chosen (shows q) (node_at low q) n below.1 in inr (below.0, not_hidden (is_hidden high q) kept.0, kept.1)
+    | inr below ↦ let kept = chosen (not (is_hidden high q)) (node_at low q) n below.1 in inr (below.0, not_hidden (is_hidden high q) kept.0, kept.1)
   ]
 
   high-over : (q : Names) (n : Node) → node_at high q ≡ Some n → node_at all q ≡ Some n
-  high-over q n there = get-over q ∙ ap (λ o. option_or o (cond (shows q) (node_at low q) None)) there
+  high-over q n there = get-over low high q ∙ ap (λ o. option_or o (cond (not (is_hidden high q)) (node_at low q) None)) there
 
   low-over : (q : Names) (n : Node) → node_at high q ≡ None → is_hidden high q ≡ false → node_at low q ≡ Some n → node_at all q ≡ Some n
-  low-over q n none shown there = get-over q ∙ ap (λ o. option_or o (cond (shows q) (node_at low q) None)) none ∙ ap (λ b. cond (not b) (node_at low q) None) shown ∙ there
+  low-over q n none shown there = get-over low high q ∙ ap (λ o. option_or o (cond (not (is_hidden high q)) (node_at low q) None)) none ∙ ap (λ b. cond (not b) (node_at low q) None) shown ∙ there
 
   dir-high : (q : Names) → is_dir (node_at high q) ≡ true → is_dir (node_at all q) ≡ true
   dir-high q is = let there = dir_there (node_at high q) is in ap is_dir (high-over q there.0 there.1 ∙ sym there.1) ∙ is
@@ -90,13 +100,9 @@ module _ (low high : Tree) (l : IsSound low) (h : IsSound high) where
   abbrev names : FinMap path_cmp Node
   names = all.names
 
-  -- what a label stands for
-  pub label-over : (label : Label) → fin.get all.labels label ≡ cond (is_used names label) (option_or (fin.get high.labels label) (fin.get low.labels label)) None
-  label-over label = get-kept label_total label_same (laid low.labels high.labels) (is_used names) label ∙ ap (λ o. cond (is_used names label) o None) (get-laid label_total label_same low.labels high.labels label)
-
   pub came-label : (label : Label) (c : Contents) → fin.get all.labels label ≡ Some c → (is_used names label ≡ true) × ((fin.get high.labels label ≡ Some c) ⊎ (fin.get low.labels label ≡ Some c))
   came-label label c there =
-      let kept = chosen (is_used names label) _ c (sym (label-over label) ∙ there) in
+      let kept = chosen (is_used names label) _ c (sym (label-over low high label) ∙ there) in
       (kept.0, elim (first_or (fin.get high.labels label) (fin.get low.labels label) c kept.1) [ inl above ↦ inl above | inr below ↦ inr below.1 ])
 
   some_or : {A : Type 0} (a b : Option A) → ((x : A) × (a ≡ Some x)) ⊎ ((x : A) × (b ≡ Some x)) → (x : A) × (option_or a b ≡ Some x)
@@ -109,7 +115,7 @@ module _ (low high : Tree) (l : IsSound low) (h : IsSound high) where
       let used = at-used names label q there in
       let found : (c : Contents) × (option_or (fin.get high.labels label) (fin.get low.labels label) ≡ Some c) =
       some_or (fin.get high.labels label) (fin.get low.labels label) (elim (came-over q (File label) there) [ inl above ↦ inl (h.stands q label above) | inr below ↦ inr (l.stands q label below.2) ]) in
-      (found.0, label-over label ∙ ap (λ b. cond b (option_or (fin.get high.labels label) (fin.get low.labels label)) None) used ∙ found.1)
+      (found.0, label-over low high label ∙ ap (λ b. cond b (option_or (fin.get high.labels label) (fin.get low.labels label)) None) used ∙ found.1)
 
   pub sound-over : IsSound all
   sound-over = record {

@@ -13,5 +13,10 @@ pub mod Faults
 pub mod Growing
 pub mod Moving
 pub mod Laying
+pub mod Hiding
 pub mod Kept
+pub mod Rewriting
+pub mod Renaming
+pub mod Origins
+pub mod Listing
 pub mod Walks

@@ -100,7 +100,6 @@ module _ (tree : Tree) (old at : Names) where
     pub not_root : old ≡ [] → ⊥
     pub not_to_root : at ≡ [] → ⊥
     pub outside : is_at_or_below old at ≡ false
-    pub legal : IsPath at
     pub folder : (front : Names) (last : List ℕ) → at ≡ front ++ last ∷ [] → is_dir (node_at tree front) ≡ true
     pub bare : (name : List ℕ) (rest : Names) (node : Node) → node_at tree (at ++ name ∷ rest) ≡ Some node → ⊥
     pub short : (p : Names) (node : Node) → node_at tree p ≡ Some node → is_at_or_below old p ≡ true → length (rooted_text (moved_path old at p)) ≤ 1024
@@ -110,10 +109,10 @@ module _ (tree : Tree) (old at : Names) where
 
   module _ (sound : IsSound tree) (move : IsMove) where
     -- a path at or below old isn't at
-    apart-old : (rest : Names) → old ++ rest ≡ at → ⊥
+    pub apart-old : (rest : Names) → old ++ rest ≡ at → ⊥
     apart-old rest same = true≢false (sym (head-of_rest old rest) ∙ ap (is_at_or_below old) same ∙ move.outside)
 
-    not_at : (rest p : Names) (n : Node) → node_at tree p ≡ Some n → (p ≡ at → ⊥) → at ++ rest ≡ p → ⊥
+    pub not_at : (rest p : Names) (n : Node) → node_at tree p ≡ Some n → (p ≡ at → ⊥) → at ++ rest ≡ p → ⊥
     not_at [] p n there apart same = apart (sym same ∙ append-nil at)
     not_at (name ∷ rest) p n there apart same = move.bare name rest n (ap (node_at tree) same ∙ there)
 
@@ -189,8 +188,8 @@ module _ (tree : Tree) (old at : Names) where
             (λ equal. move.bare name [] n (ap (λ (q : Names). node_at tree (q ++ name ∷ [])) (sym equal) ∙ ap (node_at tree) (sym same) ∙ there))
             (other_above q name (ap (is_at_or_below old) (sym same) ∙ is))
 
-    paths-moved : (p : Names) (n : Node) → node_at tree p ≡ Some n → IsPath (moved_path old at p)
-    paths-moved p n there = by (is_at_or_below old p) refl
+    paths-moved : IsPath at → (p : Names) (n : Node) → node_at tree p ≡ Some n → IsPath (moved_path old at p)
+    paths-moved legal p n there = by (is_at_or_below old p) refl
       where
         by : (b : Bool) → is_at_or_below old p ≡ b → IsPath (moved_path old at p)
         by true is =
@@ -198,7 +197,7 @@ module _ (tree : Tree) (old at : Names) where
             let ends : moved_path old at p ≡ at ++ r.0 = ap (moved_path old at) r.1 ∙ moved_path-below old at r.0 in
             let tail : All IsName r.0 = subst (All IsName) (ap (drop (length old)) r.1 ∙ drop-append_seam old r.0) (All-drop IsName (length old) p (sound.paths p n there).legal) in
             record {
-              legal = subst (All IsName) (sym ends) (All-append IsName at r.0 move.legal.legal tail);
+              legal = subst (All IsName) (sym ends) (All-append IsName at r.0 legal.legal tail);
               short = omega (arith, move.short p n there is, path_text-rooted (moved_path old at p));
             }
         by false is = subst IsPath (sym (moved_path-other old at p is)) (sound.paths p n there)
@@ -212,14 +211,18 @@ module _ (tree : Tree) (old at : Names) where
       | inr apart ↦ inl (moved_path old at p, stay-moved p (File label) there apart)
     ]
 
-    pub sound-moved : IsSound after_move
-    sound-moved = record {
-      paths = λ q n there. let from = came-moved q n there in subst IsPath from.3 (paths-moved from.0 n from.1);
+    -- a label that is left stands for what it stood for
+    pub labels-moved : (label : Label) (contents : Contents) → fin.get after_move.labels label ≡ Some contents → fin.get tree.labels label ≡ Some contents
+    labels-moved = left-sub tree sound (moved tree.names old at) (label_of (node_at tree at)) came-file stay-file (label_of (node_at tree at))
+
+    pub sound-moved : IsPath at → IsSound after_move
+    sound-moved legal = record {
+      paths = λ q n there. let from = came-moved q n there in subst IsPath from.3 (paths-moved legal from.0 n from.1);
       root = dir-unmoved [] sound.root (λ same. move.not_to_root (sym same)) (root_other old move.not_root);
       parents = λ q name n there. let from = came-moved (q ++ name ∷ []) n there in parents-moved q name n from.0 from.1 from.2 from.3;
       stands = left-stands tree sound (moved tree.names old at) (label_of (node_at tree at)) came-file stay-file (label_of (node_at tree at));
       named = left-named tree sound (moved tree.names old at) (label_of (node_at tree at)) came-file stay-file;
       dirs = λ q mode there. let from = came-moved q (Dir mode) there in sound.dirs from.0 mode from.1;
-      files = λ label contents is. sound.files label contents (left-sub tree sound (moved tree.names old at) (label_of (node_at tree at)) came-file stay-file (label_of (node_at tree at)) label contents is);
+      files = λ label contents is. sound.files label contents (labels-moved label contents is);
       links = λ q text there. let from = came-moved q (Link text) there in sound.links from.0 text from.1;
     }

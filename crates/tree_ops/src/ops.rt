@@ -1,5 +1,5 @@
 //! What every kind of tree can do.
-ghost use Rattle.std.specs.Prelude.{◌≡◌, ◌≤◌, ◌↔◌, Ok, IfOk, IsTrue, List, [], ◌∷◌, ◌++◌, All, ℕ, Bool, not, Result};
+ghost use Rattle.std.specs.Prelude.{◌≡◌, ◌≤◌, ◌↔◌, IfOk, IsTrue, [], ◌∷◌, ◌++◌, All, ℕ, Bool};
 ghost use Rattle.std.specs.Option.{option_copied};
 ghost use Rattle.tree_ops.specs.declared.entry.Label.{Label as label_of};
 ghost use Rattle.tree_ops.specs.Tree.{Tree, IsTree, IsLinkText, empty_tree, entry_at, bytes_at, mode_at, text_at, names_below};
@@ -7,11 +7,9 @@ ghost use Rattle.br_path.specs.Path.{IsPath};
 ghost use Rattle.tree_ops.specs.Walk.{resolved, IsWalk};
 ghost use Rattle.br_path.specs.Gives.{Gives};
 ghost use Rattle.tree_ops.specs.declared.change.ChangeFault.TheVariants.{Memory as no_memory};
-ghost use Rattle.tree_ops.specs.Change.{MakeFile, Write, Append, SetMode, AddName, MakeLink, MakeDir, Remove, Rename, Populate, changed, IsChange, Change, State, is_own};
+ghost use Rattle.tree_ops.specs.Change.{MakeFile, Write, Append, SetMode, AddName, MakeLink, MakeDir, Remove, Rename, Populate, IsChange};
 ghost use Rattle.tree_ops.specs.Pen.{counts_of};
-ghost use Rattle.tree_ops.specs.declared.pen.Pen.{Pen as pen_of};
-ghost use Rattle.tree_ops.specs.Held.{IsHeld, IsSealed, IsForeign, IsAsked, IsReached};
-ghost use Rattle.tree_ops.specs.declared.change.ChangeFault.{ChangeFault as fault_of_change};
+ghost use Rattle.tree_ops.specs.Held.{IsHeld, IsSealed, IsForeign};
 
 use crate::change::ChangeFault;
 use crate::entry::Entry;
@@ -192,9 +190,3 @@ pub trait TreeOps: Drop {
     fn is_sealed(&self) -> bool
         ensures { IsTrue result ↔ IsSealed (tree self.now) (sealed self.now) };
 }
-
-/// Changes keep trees: each leads from a state that a task reaches to one, whatever it is.
-pub fn changes_keep_trees()
-    ensures next { (change : Change) (old new : State) → IsAsked change old.1 → IsReached old → changed change old ≡ Ok new → IsReached new }
-    ensures held { (copying : ℕ → ℕ → ℕ) (change : Change) (old new : Tree × pen_of) (was sealed : label_of → Bool) (result : Result (Unit {0}) fault_of_change) → IsAsked change (counts_of old.1) → IsHeld old.0 was (counts_of old.1) → ((label : label_of) → sealed label ≡ not (is_own (counts_of old.1) label)) → IsChange copying change old result new → IsHeld new.0 sealed (counts_of new.1) }
-{}
