@@ -6,7 +6,7 @@ use Rattle.tree_ops.specs.declared.change.ChangeFault.{ChangeFault}
 use Rattle.tree_ops.specs.declared.change.ChangeFault.TheVariants.{NoSpace, TooLong, Memory, Outside, Absent, Loop}
 use Rattle.tree_ops.specs.declared.pen.Pen.{Pen}
 use Rattle.tree_ops.specs.Tree.{Tree, node_at}
-use Rattle.tree_ops.specs.Pen.{Counts, counts_of, with_counts, within_limits}
+use Rattle.tree_ops.specs.Pen.{counts_of, with_counts, within_limits}
 use Rattle.tree_ops.specs.Change.{Rename, State, seen, IsChange, fault_of, tree_after, pen_after, fault_if, is_path, moved, label_of, dropped_unused, recounted, grows_too_long, is_below, parent_fault, replace_fault}
 use Rattle.tree_ops.proofs.Counts.{recounted-same}
 use Rattle.tree_ops.proofs.Changed.{IsChange-ok, IsChange-full, changed-refused}

@@ -1,11 +1,11 @@
 -- Where the contents of other tasks' labels come from.
-use Rattle.std.proofs.Common.{ℕ, ◌≡◌, inl, inr, Bool, true, false, cond, Option, Some, None, Ok, refl, sym, ap, subst, ◌∙◌}
+use Rattle.std.proofs.Common.{◌≡◌, inl, inr, false, Some, Ok, refl, sym, ap, ◌∙◌}
 use Rattle.std.specs.FinMap as fin
 use Rattle.std.specs.FinMap.{FinMap}
 use Rattle.std.specs.Option.{option_or}
 use Rattle.tree_ops.specs.declared.entry.Contents.{Contents}
 use Rattle.tree_ops.specs.declared.entry.Label.{Label}
-use Rattle.tree_ops.specs.Tree.{Tree, label_cmp, is_used, over}
+use Rattle.tree_ops.specs.Tree.{label_cmp, is_used, over}
 use Rattle.tree_ops.specs.Change.{Change, MakeFile, Write, Append, SetMode, AddName, MakeLink, MakeDir, Remove, Rename, Populate, State, changed, tree_after, is_own}
 use Rattle.tree_ops.specs.Laws.{contents_before}
 use Rattle.tree_ops.proofs.Foreign.{StaysOrGoes, stays-after}

@@ -1,16 +1,13 @@
 -- What stands where after a move.
 use Rattle.std.proofs.Common.{ℕ, ◌≡◌, ◌≢◌, ◌⊎◌, inl, inr, Bool, true, false, cond, List, [], ◌∷◌, ◌++◌, length, drop, Option, Some, None, Ok, refl, sym, ap, subst, ◌∙◌}
-use Rattle.std.specs.FinMap as fin
 use Rattle.std.proofs.lemmas.Bool.{true≢false}
 use Rattle.std.proofs.lemmas.List.{append-nil}
 use Rattle.std.proofs.Math.Seq.{drop-append_seam}
 use Rattle.br_path.specs.Path.{Names}
 use Rattle.br_path.proofs.Paths.{names_decide}
-use Rattle.tree_ops.specs.declared.entry.Label.{Label}
-use Rattle.tree_ops.specs.declared.entry.Contents.{Contents}
 use Rattle.tree_ops.specs.declared.entry.Node.{Node}
 use Rattle.tree_ops.specs.Tree.{Tree, IsTree, node_at}
-use Rattle.tree_ops.specs.Change.{Rename, State, changed, tree_after, renamed, moved, moved_path, dropped_unused, label_of, is_path, is_at_or_below}
+use Rattle.tree_ops.specs.Change.{Rename, State, changed, moved, moved_path, dropped_unused, label_of, is_path, is_at_or_below}
 use Rattle.tree_ops.specs.Laws.{IsMoved}
 use Rattle.tree_ops.proofs.Heads.{rows, rest-of_head, head-of_rest, moved_path-below, moved_path-other}
 use Rattle.tree_ops.proofs.Kept.{move-renamed}

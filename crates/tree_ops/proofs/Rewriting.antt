@@ -1,7 +1,6 @@
 -- What a change of contents or mode through a name reaches.
-use Rattle.std.proofs.Common.{ℕ, ◌≡◌, ◌≢◌, inl, inr, Bool, true, false, cond, List, Option, Some, None, Ok, refl, sym, ap, subst, ◌∙◌}
+use Rattle.std.proofs.Common.{◌≡◌, ◌≢◌, inl, inr, Bool, true, false, cond, Option, Some, None, Ok, refl, sym, ap, subst, ◌∙◌}
 use Rattle.std.specs.FinMap as fin
-use Rattle.std.specs.FinMap.{FinMap}
 use Rattle.std.specs.Option.{option_map}
 use Rattle.std.proofs.lemmas.Bool.{true≢false}
 use Rattle.std.proofs.lemmas.Option.{same_Some}
@@ -11,7 +10,7 @@ use Rattle.tree_ops.specs.declared.entry.Contents.{Contents}
 use Rattle.tree_ops.specs.declared.entry.Node.{Node}
 use Rattle.tree_ops.specs.declared.entry.Node.TheVariants.{Dir, Link, File}
 use Rattle.tree_ops.specs.Tree.{Tree, node_at, has_label}
-use Rattle.tree_ops.specs.Change.{Change, MakeFile, Write, Append, SetMode, AddName, MakeLink, MakeDir, Remove, Rename, Populate, State, changed, tree_after, is_own, next_label, contents_at, with_contents, written, with_bytes, with_more, with_mode, mode_set, relabelled, relabelled_node}
+use Rattle.tree_ops.specs.Change.{Change, MakeFile, Write, Append, SetMode, AddName, MakeLink, MakeDir, Remove, Rename, Populate, State, changed, tree_after, is_own, next_label, contents_at, with_contents, written, with_bytes, with_more, mode_set, relabelled, relabelled_node}
 use Rattle.tree_ops.specs.Laws.{rewritten_at, rewritten, IsInPlace, IsAnew}
 use Rattle.tree_ops.proofs.Orders.{label_total, label_same}
 use Rattle.tree_ops.proofs.Inserts.{get-insert_cases, get-insert_same}

@@ -15,7 +15,7 @@ use Rattle.tree_ops.specs.declared.pen.Pen.{Pen}
 use Rattle.tree_ops.specs.Pen.{counts_of}
 use Rattle.tree_ops.specs.Held.{IsHeld, IsAsked, IsReached}
 use Rattle.tree_ops.specs.Tree.{Tree, IsTree, node_at, is_leaf, is_hidden, is_used, over, names_below}
-use Rattle.tree_ops.specs.Change.{Change, MakeFile, Write, Append, SetMode, AddName, MakeLink, MakeDir, Remove, Rename, Populate, State, changed, IsChange, is_own, next_label, contents_at, with_bytes, with_more, with_mode, text_bytes, is_at_or_below}
+use Rattle.tree_ops.specs.Change.{Change, Write, Append, SetMode, Rename, Populate, State, changed, IsChange, is_own, next_label, contents_at, with_bytes, with_more, with_mode, text_bytes, is_at_or_below}
 
 -- 1. Trees.
 

@@ -1,5 +1,5 @@
 -- A world with another tree in one area, and another pen.
-use Rattle.std.proofs.Common.{ℕ, ◌+◌, ◌≤◌, ◌≡◌, Bool, Result, Ok, Err, refl, sym, ap, ◌∙◌, arith}
+use Rattle.std.proofs.Common.{ℕ, ◌+◌, ◌≡◌, Bool, Result, Ok, Err, refl, sym, ap, ◌∙◌, arith}
 use Rattle.std.specs.Prelude.{OnErr}
 use Rattle.std.specs.FinMap as fin
 use Rattle.br_path.specs.declared.area.Area.{Area}
@@ -10,13 +10,13 @@ use Rattle.tree_ops.specs.declared.entry.Label.{Label}
 use Rattle.tree_ops.specs.declared.pen.Pen.{Pen}
 use Rattle.tree_ops.specs.Pen.{counts_of}
 use Rattle.tree_ops.specs.Tree.{Tree}
-use Rattle.tree_ops.specs.Change.{Change, State, IsChange, seen, text_bytes}
+use Rattle.tree_ops.specs.Change.{Change, IsChange, seen, text_bytes}
 use Rattle.tree_ops.specs.Held.{IsHeld}
 use Rattle.tree_ops.proofs.Counting.{names-IsChange, texts-IsChange, root-counts}
 use Rattle.tree_ops.proofs.Outcomes.{IsHeld-later, IsLater-IsChange}
 use Rattle.tree_worlds.specs.declared.world.Trees.{Trees}
 use Rattle.tree_worlds.specs.declared.world.World.{World}
-use Rattle.tree_worlds.specs.World.{WorldData, world_data, with_state, state_in}
+use Rattle.tree_worlds.specs.World.{world_data, with_state, state_in}
 use Rattle.tree_worlds.specs.HeldWorld.{IsHeldWorld, IsAsBefore}
 use Rattle.tree_worlds.proofs.Putting.{put_same}
 

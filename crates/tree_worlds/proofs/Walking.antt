@@ -1,5 +1,5 @@
 -- The walk of an operand has only bytes that a walk may have.
-use Rattle.std.proofs.Common.{ℕ, ◌≡◌, Bool, true, false, List, Option, Some, None, Result, Ok, Err, refl, sym, ap, subst, ◌==◌, All, get_or}
+use Rattle.std.proofs.Common.{ℕ, ◌≡◌, Bool, true, false, List, Option, Some, None, Result, Ok, Err, refl, ap, subst, ◌==◌, get_or}
 use Rattle.std.specs.Prelude.{IsTrue, IfOk, ◌&&◌, ◌||◌, not, nat_le, if◌then◌else◌, codes}
 use Rattle.std.specs.List.{list_all, list_any}
 use Rattle.std.proofs.lemmas.Bool.{and_parts}
@@ -14,8 +14,7 @@ use Rattle.br_path.specs.declared.area.Area.TheVariants.{Build}
 use Rattle.tree_ops.specs.Walk.{IsWalk, is_filled, begins_at_root}
 use Rattle.tree_ops.specs.declared.change.ChangeFault.TheVariants.{Outside, Absent}
 use Rattle.tree_worlds.specs.declared.operand.Operand.{Operand}
-use Rattle.tree_worlds.specs.declared.operand.Operand.TheVariants.{Input, Place, Readable}
-use Rattle.tree_worlds.specs.declared.reason.Reason.{Reason}
+use Rattle.tree_worlds.specs.declared.operand.Operand.TheVariants.{Input, Place}
 use Rattle.tree_worlds.specs.declared.reason.Reason.TheVariants.{Operand as no_operand, Change as for_change}
 use Rattle.tree_worlds.specs.declared.reason.CommandError.{CommandError}
 use Rattle.tree_worlds.specs.declared.reason.CommandError.TheVariants.{Memory}

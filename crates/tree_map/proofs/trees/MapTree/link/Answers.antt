@@ -1,4 +1,4 @@
-use Rattle.std.proofs.Common.{sym, refl}
+use Rattle.std.proofs.Common.{sym}
 use Rattle.tree_map.specs.Parts.{shown}
 use Rattle.tree_map.proofs.Made.{linked-ok, linked-full}
 use Rattle.tree_map.proofs.trees.MapTree.link.Goals as goal

@@ -1,4 +1,4 @@
-use Rattle.std.proofs.Common.{sym, refl, ◌∙◌}
+use Rattle.std.proofs.Common.{sym, ◌∙◌}
 use Rattle.tree_ops.specs.declared.entry.Node.TheVariants.{File}
 use Rattle.tree_map.specs.Parts.{shown, with_name, with_label}
 use Rattle.tree_map.proofs.Made.{free, made_file-ok, made_file-full}

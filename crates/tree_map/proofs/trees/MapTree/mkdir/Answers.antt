@@ -1,4 +1,4 @@
-use Rattle.std.proofs.Common.{sym, refl}
+use Rattle.std.proofs.Common.{sym}
 use Rattle.tree_map.specs.Parts.{shown}
 use Rattle.tree_map.proofs.Made.{made_dir-ok, made_dir-full}
 use Rattle.tree_map.proofs.trees.MapTree.mkdir.Goals as goal

@@ -1,4 +1,4 @@
-use Rattle.std.proofs.Common.{◌≡◌, false, [], sym, refl, ap, ◌∙◌}
+use Rattle.std.proofs.Common.{◌≡◌, false, [], sym, ap, ◌∙◌}
 use Rattle.tree_ops.specs.Change.{is_path}
 use Rattle.tree_map.specs.Parts.{shown, without_gone}
 use Rattle.tree_map.proofs.Made.{removed-ok, removed-full}

@@ -1,4 +1,4 @@
-use Rattle.std.proofs.Common.{sym, refl}
+use Rattle.std.proofs.Common.{sym}
 use Rattle.tree_map.specs.Parts.{shown}
 use Rattle.tree_map.proofs.Modes.{dir_mode-ok, dir_mode-full}
 use Rattle.tree_map.proofs.trees.MapTree.set_dir_mode.Goals as goal

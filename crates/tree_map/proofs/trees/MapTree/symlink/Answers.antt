@@ -1,4 +1,4 @@
-use Rattle.std.proofs.Common.{sym, refl, ap, ◌∙◌}
+use Rattle.std.proofs.Common.{sym, ap, ◌∙◌}
 use Rattle.tree_ops.specs.declared.entry.Node.TheVariants.{Link}
 use Rattle.tree_map.specs.Parts.{shown, with_name}
 use Rattle.tree_map.proofs.Made.{made_link-ok, made_link-full}
