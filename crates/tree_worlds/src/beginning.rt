@@ -2,6 +2,7 @@
 ghost use Rattle.std.specs.Prelude.{◌≡◌, IfOk, OnOk, OnErr};
 ghost use Rattle.tree_ops.specs.Tree.{IsTree};
 ghost use Rattle.tree_ops.specs.Held.{IsSealed};
+ghost use Rattle.tree_ops.specs.Pen.{new_pen};
 ghost use Rattle.tree_worlds.specs.World.{world_data, trees_data, empty_trees, new_world, readable, shown_too};
 ghost use Rattle.tree_worlds.specs.HeldWorld.{IsHeldWorld};
 
@@ -21,6 +22,7 @@ impl<T: TreeOps> World<T> {
         prep: bool,
     ) -> Result<World<T>, Memory>
         ensures new { IfOk result (λ world. world_data T.tree world ≡ new_world task owner folder host prep) }
+        ensures pen { IfOk result (λ world. world.pen ≡ new_pen task) }
         ensures held { IfOk result (IsHeldWorld T.tree T.sealed) }
     {
         let trees = empty_trees(alloc)?;
@@ -44,6 +46,7 @@ impl<T: TreeOps> World<T> {
         requires held { IsHeldWorld T.tree T.sealed self.old }
         ensures ok { OnOk result (world_data T.tree self.new ≡ shown_too (world_data T.tree self.old) (readable task owner (T.tree tree))) }
         ensures err { OnErr result (world_data T.tree self.new ≡ world_data T.tree self.old) }
+        ensures pen { self.new.pen ≡ self.old.pen }
         ensures held { IsHeldWorld T.tree T.sealed self.new }
     {
         let shown = ShownTree {
