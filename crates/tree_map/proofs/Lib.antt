@@ -10,3 +10,4 @@ pub mod Below
 pub mod Sealed
 pub mod Neighbours
 pub mod Children
+pub mod Tally

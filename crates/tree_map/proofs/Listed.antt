@@ -1,16 +1,14 @@
 -- Maps by the lists that they are built of.
-use Rattle.std.proofs.Common.{ℕ, ◌+◌, ◌-◌, ◌≡◌, Bool, true, false, not, cond, List, ◌++◌, map, length, Option, None, Ordering, refl, sym, ap, ◌∙◌}
+use Rattle.std.proofs.Common.{◌+◌, ◌-◌, ◌≡◌, Bool, true, false, not, cond, List, ◌++◌, map, length, Option, None, Ordering, refl, sym, ap, ◌∙◌}
 use Rattle.std.specs.FinMap as fin
 use Rattle.std.specs.FinMap.{FinMap, IsAntisymmetric, find}
 use Rattle.std.specs.FinMap.Entries.{where_key, find-where_key, is_sorted-where_key}
 use Rattle.std.specs.Cmp.{IsTotalOrder, Equal-is}
-use Rattle.std.specs.BTreeMap.{BTreeMap, IsOrdered}
 use Rattle.std.specs.List.{sum_by}
 use Rattle.std.specs.Option.{option_or}
 use Rattle.std.specs.Ordering.{eq_by_cmp, is_eq}
 use Rattle.std.proofs.lemmas.Cmp.{eq_by_cmp_equiv, tied_itself}
 use Rattle.br_path.specs.Path.{Names, path_cmp, rooted_text}
-use Rattle.br_path.proofs.Maps.{entries-of}
 use Rattle.br_path.proofs.Paths.{names_decide}
 use Rattle.br_path.proofs.PathOrder.{path_total, path_same}
 use Rattle.tree_ops.specs.declared.entry.Node.{Node}
@@ -19,7 +17,7 @@ use Rattle.tree_ops.specs.Tree.{Tree, laid}
 use Rattle.tree_ops.specs.Change.{is_path, moved, moved_path, recounted, counted_anew}
 use Rattle.tree_ops.proofs.Finds.{find-both, get-laid, get-kept}
 use Rattle.tree_ops.proofs.Sound.{same_tests}
-use Rattle.tree_map.specs.Parts.{names_of, measure}
+use Rattle.tree_map.specs.NameTable.{NameMap}
 
 turned : {A : Type 0} (b : Bool) (x y : A) → cond (not b) x y ≡ cond b y x
 turned true x y = refl
@@ -51,6 +49,13 @@ module _ {K X : Type 0} {R : K → K → Ordering} (o : IsTotalOrder R) (same : 
       ∙ (λ i. option_or (sym (fin.get-from_entries o high q) i) ((find-kept p q low ∙ ap (λ f. cond (p q) f None) (sym (fin.get-from_entries o low q)) ∙ sym (get-kept o same (fin.from_entries low) p q)) i))
       ∙ sym (get-laid o same (fin.retain_keys (fin.from_entries low) p) (fin.from_entries high) q))
 
+  -- a map is that of its entries
+  pub whole : (m : FinMap R X) → fin.from_entries (fin.entries m) ≡ m
+  whole m = fin.same_map o same _ _ (λ q. fin.get-from_entries o (fin.entries m) q ∙ sym (fin.get-entries m q))
+
+  pub laid-entries : (low high : FinMap R X) (p : K → Bool) → fin.from_entries {R = R} (fin.entries high ++ where_key R p (fin.entries low)) ≡ laid (fin.retain_keys low p) high
+  laid-entries low high p = laid-listed (fin.entries high) (fin.entries low) p ∙ (λ i. laid (fin.retain_keys (whole low i) p) (whole high i))
+
   -- what is kept of a map laid over another
   pub kept-listed : (high low : List (K × X)) (p : K → Bool) → fin.from_entries {R = R} (where_key R p high ++ where_key R p low) ≡ fin.retain_keys (laid (fin.from_entries low) (fin.from_entries high)) p
   kept-listed high low p = fin.same_map o same _ _ (λ q.
@@ -66,19 +71,13 @@ path_tests a b = same_tests (is_path a b) (eq_by_cmp path_cmp a b)
     (λ is. ap (λ (b : Names). eq_by_cmp path_cmp a b) (sym ((names_decide a b).0 is)) ∙ ap is_eq (tied_itself path_total a))
     (λ is. (names_decide a b).1 (path_same a b ((Equal-is (path_cmp a b)).0 is)))
 
-pub moved-listed : (m : BTreeMap Names Node) (old at : Names) → IsOrdered path_cmp m
-    → fin.from_entries {R = path_cmp} (map (λ entry. (moved_path old at entry.0, entry.1)) (where_key path_cmp (λ path. not (is_path at path)) m.entries)) ≡ moved (names_of m) old at
-moved-listed m old at ordered =
-    let made : List (Names × Node) → FinMap path_cmp Node = λ es. fin.from_entries (map (λ entry. (moved_path old at entry.0, entry.1)) es) in
-    ap made ((λ i. where_key path_cmp (λ path. not (path_tests at path i)) m.entries)
-    ∙ ap (where_key path_cmp (λ path. not (eq_by_cmp path_cmp at path))) (sym (entries-of path_total m ordered)) ∙ sym (entries-removed path_total path_same (names_of m) at))
+pub moved-listed : (m : NameMap) (old at : Names)
+    → fin.from_entries {R = path_cmp} (map (λ entry. (moved_path old at entry.0, entry.1)) (where_key path_cmp (λ path. not (is_path at path)) (fin.entries m))) ≡ moved m old at
+moved-listed m old at =
+    let made : List (Names × Node) → NameMap = λ es. fin.from_entries (map (λ entry. (moved_path old at entry.0, entry.1)) es) in
+    ap made ((λ i. where_key path_cmp (λ path. not (path_tests at path i)) (fin.entries m)) ∙ sym (entries-removed path_total path_same m at))
 
-pub counted-anew : (pen : Counts) (old new : Tree) (m n : BTreeMap Names Node) → old.names ≡ names_of m → new.names ≡ names_of n → IsOrdered path_cmp m → IsOrdered path_cmp n
-    → counted_anew pen (measure m.entries) (measure n.entries) ≡ recounted pen old new
-counted-anew pen old new m n was is before after =
-    let first : fin.entries old.names ≡ m.entries = ap fin.entries was ∙ entries-of path_total m before in
-    let second : fin.entries new.names ≡ n.entries = ap fin.entries is ∙ entries-of path_total n after in
-    let one : fin.len old.names ≡ length m.entries = fin.len-entries old.names ∙ ap length first in
-    let two : fin.len new.names ≡ length n.entries = fin.len-entries new.names ∙ ap length second in
-    let text : List (Names × Node) → ℕ = sum_by (λ entry. length (rooted_text entry.0)) in
-    λ i. record pen { names = pen.names + sym two i - sym one i; path_bytes = pen.path_bytes + text (sym second i) - text (sym first i) }
+pub counted-anew : (pen : Counts) (old new : Tree) (m : NameMap) → new.names ≡ m
+    → counted_anew pen (fin.len old.names, sum_by (λ entry. length (rooted_text entry.0)) (fin.entries old.names)) (fin.len m, sum_by (λ entry. length (rooted_text entry.0)) (fin.entries m)) ≡ recounted pen old new
+counted-anew pen old new m is i =
+    record pen { names = pen.names + fin.len (sym is i) - fin.len old.names; path_bytes = pen.path_bytes + sum_by (λ entry. length (rooted_text entry.0)) (fin.entries (sym is i)) - sum_by (λ entry. length (rooted_text entry.0)) (fin.entries old.names) }

@@ -30,7 +30,7 @@ dir_there (Some (Link text)) is = cc
 dir_there (Some (File label)) is = cc
 
 -- an insert at a path that has a node, as one after a remove
-insert-again : (m : FinMap path_cmp Node) (at : Names) (node : Node) → fin.insert m at node ≡ fin.insert (fin.remove m at) at node
+pub insert-again : (m : FinMap path_cmp Node) (at : Names) (node : Node) → fin.insert m at node ≡ fin.insert (fin.remove m at) at node
 insert-again m at node = fin.same_map path_total path_same _ _ (λ q.
     fin.get-insert path_total m at node q
     ∙ sym (fin.get-insert path_total (fin.remove m at) at node q ∙ ap (cond (eq_by_cmp path_cmp q at) (Some node)) (fin.get-remove path_total m at q) ∙ cond-cond (eq_by_cmp path_cmp q at) (Some node) None (fin.get m q)))

@@ -1,11 +1,10 @@
 -- The tree that two plain maps stand for, and its parts as they change.
-use Rattle.std.specs.Prelude.{ℕ, Bool, false, not, ◌&&◌, length, List, [], ◌∷◌, ◌++◌, if◌then◌else◌, Option, Some, None, Result, Ok, Err, ◌≡◌}
+use Rattle.std.specs.Prelude.{ℕ, Bool, false, not, ◌&&◌, List, [], ◌∷◌, ◌++◌, if◌then◌else◌, Option, Some, None, Result, Ok, Err, ◌≡◌}
 use Rattle.std.specs.Borrow.{Bor}
 use Rattle.std.specs.FinMap as fin
 use Rattle.std.specs.FinMap.{FinMap}
 use Rattle.std.specs.BTreeMap.{BTreeMap}
-use Rattle.br_path.specs.Path.{Names, IsPath, parent_of, path_cmp, folders_of, rooted_text}
-use Rattle.std.specs.List.{list_any, sum_by}
+use Rattle.br_path.specs.Path.{Names, IsPath, parent_of}
 use Rattle.std.specs.Option.{option_or, is_none}
 use Rattle.std.specs.Prelude.{◌||◌, ◌==◌, Bool, false, Some, None, Ok, Err}
 use Rattle.tree_ops.specs.declared.change.ChangeFault.TheVariants.{Outside, Absent, Loop}
@@ -15,29 +14,18 @@ use Rattle.tree_ops.specs.declared.entry.Node.{Node}
 use Rattle.tree_ops.specs.declared.entry.Node.TheVariants.{File}
 use Rattle.tree_ops.specs.declared.change.ChangeFault.{ChangeFault}
 use Rattle.tree_map.specs.declared.trees.MapTree.{MapTree}
-use Rattle.tree_ops.specs.Tree.{Tree, is_used, is_leaf, label_cmp, node_at, child_name}
+use Rattle.tree_ops.specs.Tree.{Tree, is_used, label_cmp, node_at, child_name}
 use Rattle.tree_ops.specs.Change.{relabelled, dropped_unused, file_fault, is_at_or_below, is_too_long, moved_path, remove_fault, label_of, fault_if, is_path, is_below, parent_fault, replace_fault}
-
-abbrev pub names_of : BTreeMap Names Node → FinMap path_cmp Node
-names_of names = fin.from_entries names.entries
 
 abbrev pub labels_of : BTreeMap Label Contents → FinMap label_cmp Contents
 labels_of labels = fin.from_entries labels.entries
-
--- a file or link of these names stands above the path
-abbrev pub hides : FinMap path_cmp Node → Names → Bool
-hides names at = list_any (λ folder. is_leaf (fin.get names folder)) (folders_of at)
-
--- how many names there are, and the bytes of their texts
-abbrev pub measure : List (Names × Node) → ℕ × ℕ
-measure names = (length names, sum_by (λ entry. length (rooted_text entry.0)) names)
 
 -- a path that would become too long
 abbrev pub leads_too_far : Names → Names → Names × Node → Bool
 leads_too_far old at entry = is_at_or_below old entry.0 && is_too_long (moved_path old at entry.0)
 
 abbrev pub shown : MapTree → Tree
-shown t = record { names = names_of t.names; labels = fin.from_entries t.labels.entries }
+shown t = record { names = t.names; labels = labels_of t.labels }
 
 abbrev pub with_name : Tree → Names → Node → Tree
 with_name tree at node = record tree { names = fin.insert tree.names at node }
@@ -54,8 +42,14 @@ without_label tree label = record tree { labels = fin.remove tree.labels label }
 abbrev pub without_unused : Tree → Label → Tree
 without_unused tree label = record tree { labels = if is_used tree.names label then tree.labels else fin.remove tree.labels label }
 
-abbrev pub with_relabelled : Tree → Label → Label → Tree
-with_relabelled tree from to = record tree { names = relabelled from to tree.names }
+-- the tree with all names of one label under another, which stands for these contents
+abbrev pub renewed : Tree → Label → Label → Contents → Tree
+renewed tree from to contents = record { names = relabelled from to tree.names; labels = fin.remove (fin.insert tree.labels to contents) from }
+
+-- labels in which one stands for what it stood for before, or for nothing
+abbrev pub set_back : FinMap label_cmp Contents → Label → Option Contents → FinMap label_cmp Contents
+set_back labels label None = fin.remove labels label
+set_back labels label (Some contents) = fin.insert labels label contents
 
 -- the label of the file at a path, or why there is none
 abbrev pub IsFile : Option Node → Result Label ChangeFault → Type 0

@@ -1,8 +1,11 @@
 //! Trees that are kept as two plain maps.
 #![tactic(auto)]
 
-mod maps;
+mod counts;
+mod labels;
+mod names;
 mod ops;
+mod paths;
 mod trees;
 
 pub use trees::MapTree;

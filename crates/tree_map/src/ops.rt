@@ -1,7 +1,8 @@
 //! What a tree of two maps does as a tree.
 ghost use Rattle.tree_map.specs.Parts.{shown, sealed_by, uncounted};
 
-use crate::maps;
+use crate::labels::has_label_of;
+use crate::names::NameTable;
 use crate::trees::MapTree;
 use br_path::{Memory, Names, Path};
 use std::alloc::Global;
@@ -33,7 +34,7 @@ impl TreeOps for MapTree {
     /// The time is constant.
     fn empty(alloc: Global) -> Result<MapTree, Memory> {
         let mut tree = MapTree {
-            names: BTreeMap::new(alloc),
+            names: NameTable::new(alloc),
             labels: BTreeMap::new(alloc),
             owner: None,
         };
@@ -73,7 +74,7 @@ impl TreeOps for MapTree {
 
     /// The time is linear in the number of names that stand below the path at any depth, but for one look-up.
     fn children(&self, alloc: Global, at: &Path) -> Result<Names, Memory> {
-        maps::names_below(alloc, &self.names, at)
+        self.names.children(alloc, at)
     }
 
     /// The time is that of a look-up for each component of the walk and of the links that it follows.
@@ -142,7 +143,7 @@ impl TreeOps for MapTree {
         result
     }
 
-    /// The time is logarithmic in the number of names.
+    /// The time is logarithmic in the numbers of names and labels.
     fn link(
         &mut self,
         alloc: Global,
@@ -187,8 +188,7 @@ impl TreeOps for MapTree {
         result
     }
 
-    /// The time is logarithmic in the number of names for a folder or a link. For a file it's linear in the number of all
-    /// names, since another of them may be the file's.
+    /// The time is logarithmic in the numbers of names and labels. Takes no memory.
     fn remove(&mut self, alloc: Global, at: &Path, pen: &mut Pen) -> Result<(), ChangeFault> {
         let task = pen.task;
         let result = MapTree::remove(self, alloc, at, pen);
@@ -239,7 +239,7 @@ impl TreeOps for MapTree {
     fn is_sealed(&self) -> bool {
         match self.owner {
             None => true,
-            Some(task) => !maps::has_label_of(&self.labels, task),
+            Some(task) => !has_label_of(&self.labels, task),
         }
     }
 }

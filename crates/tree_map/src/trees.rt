@@ -2,12 +2,11 @@
 ghost use Rattle.std.specs.Prelude.{◌≡◌, OnOk, OnErr};
 ghost use Rattle.std.specs.FinMap as fin;
 ghost use Rattle.std.specs.Option.{option_copied};
-ghost use Rattle.std.specs.List.{list_any};
-ghost use Rattle.std.specs.BTreeMap.{values, IsOrdered};
-ghost use Rattle.br_path.specs.Path.{parent_of, path_cmp};
-ghost use Rattle.tree_ops.specs.Tree.{node_at, is_used, has_label};
-ghost use Rattle.tree_ops.specs.Change.{new_name_fault, no_folder_fault, parent_fault, IsChecked, IsChange, MakeDir, MakeLink, Remove, Rename, Populate, MakeFile, count_if, Write, Append, SetMode, AddName, has_names, remove_fault, replace_fault, label_of, recounted, relabelled, contents_at, with_contents, is_own};
-ghost use Rattle.tree_map.specs.Parts.{names_of, shown, with_name, without_name, with_label, without_label, without_unused, with_relabelled, IsFile, IsRemovable, without_gone, move_fault};
+ghost use Rattle.br_path.specs.Path.{parent_of};
+ghost use Rattle.tree_ops.specs.Tree.{node_at};
+ghost use Rattle.tree_ops.specs.Change.{new_name_fault, no_folder_fault, parent_fault, IsChecked, IsChange, MakeDir, MakeLink, Remove, Rename, Populate, MakeFile, count_if, Write, Append, SetMode, AddName, has_names, remove_fault, replace_fault, label_of, recounted, contents_at, with_contents, is_own};
+ghost use Rattle.tree_map.specs.NameTable.{is_label};
+ghost use Rattle.tree_map.specs.Parts.{shown, with_name, without_name, with_label, without_label, without_unused, renewed, IsFile, IsRemovable, without_gone, move_fault};
 ghost use Rattle.std.specs.Prelude.{None, Some, false, true, IfOk, ◌++◌, length, ◌<◌, ◌^◌};
 ghost use Rattle.tree_ops.specs.Tree.{is_dir};
 ghost use Rattle.tree_ops.specs.Held.{IsSealed};
@@ -17,18 +16,20 @@ ghost use Rattle.tree_ops.specs.Change.{is_path};
 ghost use Rattle.tree_ops.specs.Pen.{counts_of, with_counts, within_limits};
 ghost use Rattle.tree_ops.specs.Tree.{Tree};
 
-use crate::maps;
+use crate::labels::{labels_again, labels_over, set_back};
+use crate::names::NameTable;
+use crate::paths::{is_below, is_path};
 use br_path::{Bytes, Memory, Path};
 use std::alloc::Global;
 use std::collections::BTreeMap;
 use tree_ops::{ChangeFault, Contents, LENGTH_LIMIT, Label, Node, Pen, rooted_length};
 
-/// A tree as a map from paths to nodes and one from labels to contents.
+/// A tree as a map from paths to nodes and one from labels to contents. It also keeps how many names each label has.
 ///
 /// A look-up takes time logarithmic in the number of names, and no memory. What the other calls take stands at each.
 #[derive(Drop)]
 pub struct MapTree {
-    pub(crate) names: BTreeMap<Path, Node>,
+    pub(crate) names: NameTable,
     pub(crate) labels: BTreeMap<Label, Contents>,
     /// The task whose labels aren't sealed.
     pub(crate) owner: Option<u32>,
@@ -89,8 +90,7 @@ impl MapTree {
         ensures ok { OnOk result (shown self.new ≡ with_name (shown self.old) at.now node) }
         ensures err { OnErr result (shown self.new ≡ shown self.old) }
     {
-        self.names.insert(at.copy()?, node)?;
-        Ok(())
+        self.names.insert(at.copy()?, node)
     }
 
     /// Lets a label stand for these contents. After a refusal nothing is changed.
@@ -108,33 +108,6 @@ impl MapTree {
     {
         self.names.remove(at);
     }
-}
-
-/// Puts all names of a label under another one.
-fn relabel(names: &mut BTreeMap<Path, Node>, from: Label, to: Label)
-    ensures { names_of names.new ≡ relabelled from to (names_of names.old) }
-{
-    names.retain(|_, node| {
-        if maps::has_label(from, node) {
-            *node = Node::File(to);
-        }
-        true
-    });
-}
-
-impl MapTree {
-    /// Whether some path has a name of the file with this label.
-    fn uses(&self, label: Label) -> bool
-        ensures { result ≡ is_used (shown self.now).names label }
-    {
-        maps::uses(&self.names, label)
-    }
-
-    fn relabel(&mut self, from: Label, to: Label)
-        ensures { shown self.new ≡ with_relabelled (shown self.old) from to }
-    {
-        relabel(&mut self.names, from, to);
-    }
 
     fn drop_label(&mut self, label: &Label)
         ensures { shown self.new ≡ without_label (shown self.old) label.now }
@@ -145,7 +118,7 @@ impl MapTree {
     fn drop_unused(&mut self, label: Label)
         ensures { shown self.new ≡ without_unused (shown self.old) label }
     {
-        if !self.uses(label) {
+        if !self.names.uses(label) {
             self.drop_label(&label);
         }
     }
@@ -172,19 +145,34 @@ impl MapTree {
         }
     }
 
+    /// Gives a file another label at all its names, which stands for these contents. After a refusal nothing is changed.
+    fn renew(&mut self, from: Label, to: Label, contents: Contents) -> Result<(), Memory>
+        requires { is_label from to ≡ false }
+        ensures ok { OnOk result (shown self.new ≡ renewed (shown self.old) from to contents) }
+        ensures err { OnErr result (shown self.new ≡ shown self.old) }
+    {
+        let before = self.labels.insert(to, contents)?;
+        match self.names.relabel(from, to) {
+            Ok(()) => {
+                self.drop_label(&from);
+                Ok(())
+            }
+            Err(memory) => {
+                set_back(&mut self.labels, to, before);
+                Err(memory)
+            }
+        }
+    }
+
     /// Gives a file other contents: in its place where the label is the task's own; else all its names get the task's next label first.
     fn put_contents(&mut self, label: Label, contents: Contents, pen: &Pen) -> Result<(), Memory>
         ensures ok { OnOk result (shown self.new ≡ with_contents (shown self.old, counts_of pen.now) label contents) }
         ensures err { OnErr result (shown self.new ≡ shown self.old) }
     {
         if label.task == pen.task {
-            self.add_label(label, contents)?;
-            return Ok(());
+            return self.add_label(label, contents);
         }
-        self.add_label(pen.next_label(), contents)?;
-        self.drop_label(&label);
-        self.relabel(label, pen.next_label());
-        Ok(())
+        self.renew(label, pen.next_label(), contents)
     }
 
     pub(crate) fn mkdir(
@@ -272,7 +260,7 @@ impl MapTree {
     fn has_names(&self, at: &Path) -> bool
         ensures { result ≡ has_names (shown self.now) at.now }
     {
-        maps::any_below(&self.names, at)
+        self.names.has_below(at)
     }
 
     /// The label of what can be taken away.
@@ -310,7 +298,7 @@ impl MapTree {
     ) -> Result<(), ChangeFault>
         ensures { IsChange uncounted (Remove at.now) (shown self.old, pen.old) result (shown self.new, pen.new) }
     {
-        if maps::is_path(at, &Path::root(alloc)) {
+        if is_path(at, &Path::root(alloc)) {
             return Err(ChangeFault::Outside);
         }
         let gone = self.check_remove(at)?;
@@ -353,10 +341,10 @@ impl MapTree {
     }
 
     /// The pen after other names, unless a count passes its limit.
-    fn counted(&self, names: &BTreeMap<Path, Node>, pen: &Pen) -> Option<Pen>
-        ensures { (new : Tree) → new.names ≡ names_of names.now → result ≡ within_limits (with_counts pen.now (recounted (counts_of pen.now) (shown self.now) new)) }
+    fn counted(&self, names: &NameTable, pen: &Pen) -> Option<Pen>
+        ensures { (new : Tree) → new.names ≡ names.now → result ≡ within_limits (with_counts pen.now (recounted (counts_of pen.now) (shown self.now) new)) }
     {
-        pen.counted_anew(maps::measure(&self.names), maps::measure(names))
+        pen.counted_anew(self.names.measure(), names.measure())
     }
 
     pub(crate) fn populate(
@@ -367,8 +355,8 @@ impl MapTree {
     ) -> Result<(), ChangeFault>
         ensures { IsChange uncounted (Populate (shown from.now)) (shown self.old, pen.old) result (shown self.new, pen.new) }
     {
-        let names = maps::names_over(alloc, &self.names, &from.names)?;
-        let labels = maps::labels_over(alloc, &self.labels, &from.labels, &names)?;
+        let names = NameTable::over(alloc, &self.names, &from.names)?;
+        let labels = labels_over(alloc, &self.labels, &from.labels, &names)?;
         let after = match self.counted(&names, pen) {
             None => return Err(ChangeFault::NoSpace),
             Some(after) => after,
@@ -384,16 +372,16 @@ impl MapTree {
         ensures { IsChecked (move_fault (shown self.now) old.now at.now None) result }
     {
         let root = Path::root(alloc);
-        if maps::is_path(old, &root) || maps::is_path(at, &root) {
+        if is_path(old, &root) || is_path(at, &root) {
             return Err(ChangeFault::Outside);
         }
         if self.node(old).is_none() {
             return Err(ChangeFault::Absent);
         }
-        if maps::is_path(old, at) {
+        if is_path(old, at) {
             return Ok(());
         }
-        if maps::is_below(old, at) {
+        if is_below(old, at) {
             return Err(ChangeFault::Loop);
         }
         self.check_parent(alloc, at)?;
@@ -412,7 +400,7 @@ impl MapTree {
         requires other { is_path old.now at.now ≡ false }
         ensures { IsChange uncounted (Rename old.now at.now) (shown self.old, pen.old) result (shown self.new, pen.new) }
     {
-        let names = match maps::moved_names(alloc, &self.names, old, at) {
+        let names = match self.names.moved(alloc, old, at) {
             Err(fault) => return Err(fault),
             Ok(names) => names,
         };
@@ -440,7 +428,7 @@ impl MapTree {
             Err(fault) => return Err(fault),
             Ok(()) => {}
         }
-        if maps::is_path(old, at) {
+        if is_path(old, at) {
             return match pen.if_within_limits() {
                 None => Err(ChangeFault::NoSpace),
                 Some(_) => Ok(()),
@@ -599,8 +587,8 @@ impl MapTree {
         ensures sealed { IfOk result (λ t. IsSealed (shown t) (sealed_by t)) }
     {
         Ok(MapTree {
-            names: maps::names_again(alloc, &self.names)?,
-            labels: maps::labels_again(alloc, &self.labels)?,
+            names: self.names.copy(alloc)?,
+            labels: labels_again(alloc, &self.labels)?,
             owner: None,
         })
     }

@@ -1,27 +1,26 @@
 use Rattle.std.proofs.Common.{◌≡◌, ◌++◌, sym, ap, ◌∙◌}
 use Rattle.std.specs.FinMap as fin
 use Rattle.std.specs.FinMap.Entries.{where_key}
-use Rattle.br_path.proofs.PathOrder.{path_total, path_same}
-use Rattle.tree_ops.specs.Tree.{Tree, over, is_hidden, is_used, label_cmp}
+use Rattle.tree_ops.specs.Tree.{Tree, over, is_used, label_cmp}
 use Rattle.tree_ops.proofs.Orders.{label_total, label_same}
-use Rattle.tree_map.specs.Parts.{shown, names_of, labels_of}
+use Rattle.tree_map.specs.NameTable.{NameMap}
+use Rattle.tree_map.specs.Parts.{shown, labels_of}
 use Rattle.tree_map.proofs.Made.{populated-ok, populated-full}
-use Rattle.tree_map.proofs.Listed.{laid-listed, kept-listed}
-use Rattle.std.specs.Prelude.{not}
+use Rattle.tree_map.proofs.Listed.{kept-listed}
 use Rattle.tree_map.proofs.trees.MapTree.populate.Goals as goal
 
 pub returns-in-None : goal.returns-in-None
 returns-in-None c =
     let all : Tree = over (shown c.args.self.now) (shown c.args.from.now) in
-    let names : names_of c.in_ok-names.names ≡ all.names = c.in_ok-names.ensures ∙ laid-listed path_total path_same c.args.from.now.names.entries c.args.self.now.names.entries (λ at. not (is_hidden (shown c.args.from.now) at)) in
+    let names : c.in_ok-names.names ≡ all.names = c.in_ok-names.ensures in
     populated-full (shown c.args.self.now, c.args.pen.now) (shown c.args.from.now) (sym (c.counted.ensures all (sym names)) ∙ c.in-None.is)
 
 pub returns : goal.returns
 returns c =
     let all : Tree = over (shown c.args.self.now) (shown c.args.from.now) in
-    let names : names_of c.in_ok-names.names ≡ all.names = c.in_ok-names.ensures ∙ laid-listed path_total path_same c.args.from.now.names.entries c.args.self.now.names.entries (λ at. not (is_hidden (shown c.args.from.now) at)) in
+    let names : c.in_ok-names.names ≡ all.names = c.in_ok-names.ensures in
     let labels : labels_of c.in_ok-labels.labels ≡ all.labels = c.in_ok-labels.ensures
-    ∙ ap (λ names. fin.from_entries {R = label_cmp} (where_key label_cmp (is_used names) c.args.from.now.labels.entries ++ where_key label_cmp (is_used names) c.args.self.now.labels.entries)) names
+    ∙ ap (λ (names : NameMap). fin.from_entries {R = label_cmp} (where_key label_cmp (is_used names) c.args.from.now.labels.entries ++ where_key label_cmp (is_used names) c.args.self.now.labels.entries)) names
     ∙ kept-listed label_total label_same c.args.from.now.labels.entries c.args.self.now.labels.entries (is_used all.names) in
-    populated-ok (shown c.args.self.now, c.args.pen.now) (shown c.args.from.now) (record { names = names_of c.in_ok-names.names; labels = labels_of c.in_ok-labels.labels }) c.in-Some.after
+    populated-ok (shown c.args.self.now, c.args.pen.now) (shown c.args.from.now) (record { names = c.in_ok-names.names; labels = labels_of c.in_ok-labels.labels }) c.in-Some.after
     (sym (c.counted.ensures all (sym names)) ∙ c.in-Some.is) (λ i. record { names = names i; labels = labels i })

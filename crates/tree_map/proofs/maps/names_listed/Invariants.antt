@@ -1,5 +1,0 @@
-use Rattle.tree_map.proofs.Children.{IsListed}
-use Rattle.tree_map.proofs.maps.names_listed.Given as goal
-
-abbrev pub invariant-loop-path : goal.invariant-loop-path
-invariant-loop-path l = IsListed l.at l.names.entries l.below.items l.path-iterator

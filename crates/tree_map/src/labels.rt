@@ -1,0 +1,120 @@
+//! Labels and what they stand for.
+ghost use Rattle.std.specs.Prelude.{◌≡◌, ◌++◌, ◌==◌, OnOk, IfOk, is_some, true};
+ghost use Rattle.std.specs.FinMap as fin;
+ghost use Rattle.std.specs.FinMap.Entries.{where_key};
+ghost use Rattle.std.specs.List.{list_any};
+ghost use Rattle.std.specs.BTreeMap as tree;
+ghost use Rattle.std.specs.BTreeMap.{keys, IsOrdered};
+ghost use Rattle.tree_ops.specs.Tree.{label_cmp, is_used};
+ghost use Rattle.tree_map.specs.Parts.{labels_of, set_back};
+
+use crate::names::NameTable;
+use br_path::Memory;
+use std::alloc::Global;
+use std::collections::BTreeMap;
+use tree_ops::{Contents, Label};
+
+/// The labels of the pairs; of two alike the first.
+fn labels_from(
+    alloc: Global,
+    pairs: Vec<(Label, Contents)>,
+) -> Result<BTreeMap<Label, Contents>, Memory>
+    ensures { IfOk result (λ m. labels_of m ≡ fin.from_entries pairs.items) }
+{
+    let mut pairs = pairs;
+    let mut labels = BTreeMap::new(alloc);
+    while let Some((label, contents)) = pairs.pop() {
+        labels.insert(label, contents)?;
+    }
+    Ok(labels)
+}
+
+/// Adds a copy of what each label stands for that one of the names has.
+fn copy_used(
+    pairs: &mut Vec<(Label, Contents)>,
+    labels: &BTreeMap<Label, Contents>,
+    names: &NameTable,
+) -> Result<(), Memory>
+    ensures { OnOk result (pairs.new.items ≡ pairs.old.items ++ where_key label_cmp (is_used names.now) labels.now.entries) }
+{
+    for (label, contents) in labels {
+        if names.uses(*label) {
+            pairs.push((*label, contents.copy()?))?;
+        }
+    }
+    Ok(())
+}
+
+/// The labels of one tree laid over those of another, as far as these names use them.
+pub(crate) fn labels_over(
+    alloc: Global,
+    low: &BTreeMap<Label, Contents>,
+    high: &BTreeMap<Label, Contents>,
+    names: &NameTable,
+) -> Result<BTreeMap<Label, Contents>, Memory>
+    ensures { IfOk result (λ m. labels_of m ≡ fin.from_entries (where_key label_cmp (is_used names.now) high.now.entries ++ where_key label_cmp (is_used names.now) low.now.entries)) }
+{
+    let mut pairs = Vec::new(alloc);
+    copy_used(&mut pairs, high, names)?;
+    copy_used(&mut pairs, low, names)?;
+    labels_from(alloc, pairs)
+}
+
+/// Lets a label stand for what it stood for before, or for nothing. It stands for something now, so that this takes no
+/// memory.
+pub(crate) fn set_back(
+    labels: &mut BTreeMap<Label, Contents>,
+    label: Label,
+    before: Option<Contents>,
+)
+    requires { is_some (tree.get label_cmp labels.old label) ≡ true }
+    ensures { labels_of labels.new ≡ set_back (labels_of labels.old) label before }
+{
+    match before {
+        None => {
+            labels.remove(&label);
+        }
+        Some(contents) => {
+            let _ = labels.insert(label, contents);
+        }
+    }
+}
+
+fn any_of_task(labels: &BTreeMap<Label, Contents>, task: u32) -> bool
+    ensures any { result ≡ list_any (λ label. label.task == task) (keys labels.now) }
+    ensures ordered { IsOrdered label_cmp labels.now }
+{
+    labels.keys().any(|label| label.task == task)
+}
+
+/// Whether one of the labels is the task's.
+pub(crate) fn has_label_of(labels: &BTreeMap<Label, Contents>, task: u32) -> bool
+    ensures { result ≡ list_any (λ entry. entry.0.task == task) (fin.entries (labels_of labels.now)) }
+{
+    any_of_task(labels, task)
+}
+
+/// Adds a copy of what each label stands for.
+fn copy_labels(
+    pairs: &mut Vec<(Label, Contents)>,
+    labels: &BTreeMap<Label, Contents>,
+) -> Result<(), Memory>
+    ensures { OnOk result (pairs.new.items ≡ pairs.old.items ++ labels.now.entries) }
+{
+    for (label, contents) in labels {
+        pairs.push((*label, contents.copy()?))?;
+    }
+    Ok(())
+}
+
+/// The same labels once more.
+pub(crate) fn labels_again(
+    alloc: Global,
+    labels: &BTreeMap<Label, Contents>,
+) -> Result<BTreeMap<Label, Contents>, Memory>
+    ensures { IfOk result (λ m. labels_of m ≡ labels_of labels.now) }
+{
+    let mut pairs = Vec::new(alloc);
+    copy_labels(&mut pairs, labels)?;
+    labels_from(alloc, pairs)
+}

@@ -1,0 +1,72 @@
+//! Which path stands below another, and where moves lead.
+ghost use Rattle.std.specs.Prelude.{◌≡◌, IfOk, false, ◌&&◌};
+ghost use Rattle.tree_ops.specs.Change.{is_path, is_below, is_at_or_below, is_too_long, moved_path};
+ghost use Rattle.tree_map.specs.Parts.{IsChildName};
+
+use br_path::{Bytes, Memory, Path};
+use std::alloc::Global;
+use tree_ops::{LENGTH_LIMIT, rooted_length};
+
+/// Whether they are one path.
+pub(crate) fn is_path(one: &Path, other: &Path) -> bool
+    ensures { result ≡ is_path one.now other.now }
+{
+    one == other
+}
+
+/// Whether the path is the head, or stands below it.
+pub(crate) fn is_at_or_below(head: &Path, path: &Path) -> bool
+    ensures { result ≡ is_at_or_below head.now path.now }
+{
+    path.starts_with(head)
+}
+
+/// Whether the path stands below the head.
+pub(crate) fn is_below(head: &Path, path: &Path) -> bool
+    ensures { result ≡ is_below head.now path.now }
+{
+    head.names().len() < path.names().len() && path.starts_with(head)
+}
+
+/// Whether a move makes the path's text too long.
+#[tactic(auto, using(crate::proofs::Moves::too_far))]
+pub(crate) fn leads_too_far(old: &Path, at: &Path, path: &Path) -> bool
+    ensures { result ≡ (is_at_or_below old.now path.now && is_too_long (moved_path old.now at.now path.now)) }
+{
+    if !is_at_or_below(old, path) {
+        return false;
+    }
+    rooted_length(path) + rooted_length(at) > LENGTH_LIMIT + rooted_length(old)
+}
+
+/// Where a move leads to from the path.
+pub(crate) fn moved_path(alloc: Global, old: &Path, at: &Path, path: &Path) -> Result<Path, Memory>
+    requires { (is_at_or_below old.now path.now && is_too_long (moved_path old.now at.now path.now)) ≡ false }
+    ensures { IfOk result (λ p. p ≡ moved_path old.now at.now path.now) }
+{
+    if is_at_or_below(old, path) {
+        return path.with_head(alloc, old.names().len(), at);
+    }
+    path.copy()
+}
+
+/// The name of a path that stands directly below another.
+pub(crate) fn child_name<'a>(at: &Path, path: &'a Path) -> Option<&'a Bytes>
+    ensures { IsChildName at.now path.now result }
+{
+    match path.names().split_last() {
+        None => None,
+        Some((name, folder)) => {
+            if are_same(at.names(), folder) {
+                return Some(name);
+            }
+            None
+        }
+    }
+}
+
+fn are_same(names: &[Bytes], others: &[Bytes]) -> bool
+    ensures { result ≡ is_path names.now others.now }
+{
+    names == others
+}
