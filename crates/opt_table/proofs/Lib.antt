@@ -1,0 +1,7 @@
+mod ByRule
+mod Groups
+mod Kept
+mod Rising
+mod Steps
+mod Tables
+mod WordKinds
