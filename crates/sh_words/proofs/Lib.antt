@@ -1,0 +1,9 @@
+pub mod FirstLaws
+pub mod FirstWords
+pub mod Fronts
+pub mod LineLaws
+pub mod PieceLaws
+pub mod Quotes
+pub mod Repeats
+pub mod WordLaws
+pub mod WrittenLaws

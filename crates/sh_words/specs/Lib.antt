@@ -1,0 +1,10 @@
+pub mod Bytes
+pub mod Faults
+pub mod First
+pub mod Grammar
+pub mod Left
+pub mod Lines
+pub mod Pieces
+pub mod Shown
+pub mod Words
+pub mod Written
