@@ -1,0 +1,13 @@
+pub mod Modes
+pub mod Folders
+pub mod Goals
+pub mod Room
+pub mod Install
+pub mod Copying
+pub mod Leaving
+pub mod Linking
+pub mod Removing
+pub mod Moving
+pub mod ChangingModes
+pub mod Touching
+pub mod Commands

@@ -1,0 +1,4 @@
+pub mod Ran
+pub mod Walking
+pub mod Sound
+pub mod Children

@@ -1,0 +1,4 @@
+pub mod Spot
+pub mod Looks
+pub mod Finding
+pub mod Parts
