@@ -1,0 +1,9 @@
+mod Areas
+mod Makes
+mod Stays
+mod Through
+mod Sites
+mod Made
+mod Cleared
+mod Walked
+mod Fronts
