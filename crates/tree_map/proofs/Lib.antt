@@ -10,4 +10,5 @@ pub mod Below
 pub mod Sealed
 pub mod Neighbours
 pub mod Children
+pub mod Greatest
 pub mod Tally

@@ -66,7 +66,7 @@ module _ {K X : Type 0} {R : K → K → Ordering} (o : IsTotalOrder R) (same : 
       ∙ sym (get-kept o same (laid (fin.from_entries low) (fin.from_entries high)) p q))
 
 -- the tests whether two paths are one
-path_tests : (a b : Names) → is_path a b ≡ eq_by_cmp path_cmp a b
+pub path_tests : (a b : Names) → is_path a b ≡ eq_by_cmp path_cmp a b
 path_tests a b = same_tests (is_path a b) (eq_by_cmp path_cmp a b)
     (λ is. ap (λ (b : Names). eq_by_cmp path_cmp a b) (sym ((names_decide a b).0 is)) ∙ ap is_eq (tied_itself path_total a))
     (λ is. (names_decide a b).1 (path_same a b ((Equal-is (path_cmp a b)).0 is)))

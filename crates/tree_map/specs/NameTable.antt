@@ -3,12 +3,14 @@ use Rattle.std.specs.Prelude.{◌≡◌, ℕ, ◌+◌, ◌==◌, Bool, ◌&&◌,
 use Rattle.std.specs.List.{list_any, count_by}
 use Rattle.std.specs.BTreeMap as tree
 use Rattle.std.specs.BTreeMap.{BTreeMap}
+use Rattle.std.specs.BTreeMap.Range.{IsLeBy}
+use Rattle.std.specs.declared.cmp.Ordering.TheVariants.{Less}
 use Rattle.std.specs.FinMap as fin
 use Rattle.std.specs.FinMap.{FinMap}
 use Rattle.br_path.specs.Path.{Names, path_cmp, folders_of}
 use Rattle.tree_ops.specs.declared.entry.Label.{Label}
 use Rattle.tree_ops.specs.declared.entry.Node.{Node}
-use Rattle.tree_ops.specs.Tree.{label_cmp, has_label, is_leaf}
+use Rattle.tree_ops.specs.Tree.{label_cmp, has_label, is_leaf, child_name}
 
 abbrev pub NameMap : Type 0
 NameMap = FinMap path_cmp Node
@@ -44,3 +46,9 @@ abbrev pub with_moved : Label → Label → (Label → ℕ) → Label → ℕ
 with_moved from to numbers label =
     if is_label label from then 0 else
     if is_label label to then numbers from + numbers to else numbers label
+
+-- where to go on past a path, for the names directly below another: at it or past it, with none of these names between
+pub record IsBehind (at path from : Names) : Type 0 where
+  pub upto : IsLeBy path_cmp path from
+  pub past : IsLeBy path_cmp at from
+  pub skips : (q : Names) → path_cmp path q ≡ Less → IsLeBy path_cmp q from → child_name at q ≡ None

@@ -13,7 +13,7 @@ ghost use Rattle.tree_map.specs.Parts.{leads_too_far};
 ghost use Rattle.tree_map.specs.NameTable.{names_of, hides, is_label};
 
 use crate::counts::{count_down, count_moved, count_up};
-use crate::paths::{child_name, is_below, is_path, leads_too_far, moved_path};
+use crate::paths::{behind, child_name, is_below, is_path, leads_too_far, moved_path};
 use br_path::{Bytes, Memory, Names, Path};
 use std::alloc::Global;
 use std::collections::BTreeMap;
@@ -144,8 +144,7 @@ impl NameTable {
         }
     }
 
-    /// The names directly below the path, in their order. The time is linear in the names that stand below it at any
-    /// depth, but for one look-up.
+    /// The names directly below the path, in their order. The time is that of two look-ups for each, and of one more.
     pub(crate) fn children(&self, alloc: Global, at: &Path) -> Result<Names, Memory>
         ensures names { IfOk result (λ below. below ≡ filter_map (λ entry. child_name at.now entry.0) (fin.entries self.now)) }
         ensures paths { IfOk result (λ below. All (λ name. IsPath (at.now ++ name ∷ [])) below) }
@@ -286,16 +285,21 @@ fn names_listed(
 ) -> Result<Vec<Bytes>, Memory>
     ensures names { IfOk result (λ below. below.items ≡ filter_map (λ entry. child_name at.now entry.0) names.now.entries) }
     ensures paths { IfOk result (λ below. All (λ name. IsPath (at.now ++ name ∷ [])) below.items) }
-    ensures ordered { IsOrdered path_cmp names.now }
+    ensures ordered { OnOk result (IsOrdered path_cmp names.now) }
 {
     let mut below = Vec::new(alloc);
-    for (path, _) in names.range((Bound::Excluded(at), Bound::Unbounded)) {
+    let mut from = at.copy()?;
+    while let Some((path, _)) = names
+        .range((Bound::Excluded(&from), Bound::Unbounded))
+        .next()
+    {
         if !is_below(at, path) {
             break;
         }
         if let Some(name) = child_name(at, path) {
             below.push(name.copy()?)?;
         }
+        from = behind(alloc, at, path)?;
     }
     Ok(below)
 }

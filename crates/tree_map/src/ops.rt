@@ -72,7 +72,8 @@ impl TreeOps for MapTree {
         }
     }
 
-    /// The time is linear in the number of names that stand below the path at any depth, but for one look-up.
+    /// The time is that of two look-ups for each name that it gives, and of one more: all that stands below one of them is
+    /// passed over at once.
     fn children(&self, alloc: Global, at: &Path) -> Result<Names, Memory> {
         self.names.children(alloc, at)
     }

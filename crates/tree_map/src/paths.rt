@@ -1,6 +1,9 @@
 //! Which path stands below another, and where moves lead.
-ghost use Rattle.std.specs.Prelude.{◌≡◌, IfOk, false, ◌&&◌};
+ghost use Rattle.std.specs.Prelude.{◌≡◌, IfOk, true, false, ◌&&◌, [], ◌∷◌, ◌++◌, replicate};
+ghost use Rattle.std.specs.BTreeMap.Range.{IsLeBy};
+ghost use Rattle.br_path.specs.Path.{Names, IsPath, StartsWith, path_cmp};
 ghost use Rattle.tree_ops.specs.Change.{is_path, is_below, is_at_or_below, is_too_long, moved_path};
+ghost use Rattle.tree_map.specs.NameTable.{IsBehind};
 ghost use Rattle.tree_map.specs.Parts.{IsChildName};
 
 use br_path::{Bytes, Memory, Path};
@@ -69,4 +72,43 @@ fn are_same(names: &[Bytes], others: &[Bytes]) -> bool
     ensures { result ≡ is_path names.now others.now }
 {
     names == others
+}
+
+/// The path of a name below another one, so many times `~`.
+fn with_tildes(alloc: Global, path: &Path, count: usize) -> Result<Path, Memory>
+    ensures { IfOk result (λ p. p ≡ path.now ++ replicate count 126 ∷ []) }
+{
+    let name = vec![in alloc; b'~'; count]?;
+    match path.child(alloc, name.as_slice()) {
+        Ok(child) => Ok(child),
+        // The callers leave it no other fault.
+        Err(_) => Err(Memory),
+    }
+}
+
+/// The greatest path that can stand at or below a head: it goes on with names of the greatest byte, as long as they can
+/// be.
+pub(crate) fn last_below(alloc: Global, head: &Path) -> Result<Path, Memory>
+    ensures below { IfOk result (λ last. StartsWith last head.now) }
+    ensures greatest { IfOk result (λ last. (q : Names) → IsPath q → StartsWith q head.now → IsLeBy path_cmp q last) }
+{
+    let mut last = head.copy()?;
+    while rooted_length(&last) < LENGTH_LIMIT {
+        let room = LENGTH_LIMIT - rooted_length(&last);
+        last = with_tildes(alloc, &last, room.min(255))?;
+    }
+    Ok(last)
+}
+
+/// Where to go on past a path that stands below another, for the names directly below that one: behind all that stands
+/// at or below the same one of them.
+pub(crate) fn behind(alloc: Global, at: &Path, path: &Path) -> Result<Path, Memory>
+    requires { is_below at.now path.now ≡ true }
+    ensures { IfOk result (IsBehind at.now path.now) }
+{
+    let depth = at.names().len() + 1;
+    if path.names().len() == depth {
+        return path.copy();
+    }
+    last_below(alloc, &path.prefix(alloc, depth)?)
 }
