@@ -25,12 +25,20 @@ use tree_ops::{ChangeFault, TreeOps};
 use tree_worlds::{CommandError, Operand, Reason, World, error_of};
 
 /// Where sources go.
-#[derive(Drop)]
 pub(crate) enum Goal {
     /// Into a folder, each with its base.
     Into(Spot),
     /// The one source to a place.
     Onto(Spot),
+}
+
+// A proof then has one call at each place that lets a goal go, and not one for each of its variants.
+impl Drop for Goal {
+    fn drop(self) {
+        match self {
+            Goal::Into(_) | Goal::Onto(_) => {}
+        }
+    }
 }
 
 /// The name that a source gets in the folder into which it goes: its last component. At a place it gets none.

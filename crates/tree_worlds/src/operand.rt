@@ -21,7 +21,6 @@ use std::alloc::Global;
 use tree_ops::{ChangeFault, TreeOps};
 
 /// What a word names.
-#[derive(Drop)]
 pub enum Operand {
     /// A file or folder of the input.
     Input(Path),
@@ -30,6 +29,17 @@ pub enum Operand {
     Place { area: Area, walk: Bytes },
     /// A place in the readable build tree of a task, with the walk likewise.
     Readable { task: u32, walk: Bytes },
+}
+
+// A proof then has one call at each place that lets an operand go, and not one for each of its variants.
+impl Drop for Operand {
+    fn drop(self) {
+        match self {
+            Operand::Input(_)
+            | Operand::Place { area: _, walk: _ }
+            | Operand::Readable { task: _, walk: _ } => {}
+        }
+    }
 }
 
 impl<T: TreeOps> World<T> {
