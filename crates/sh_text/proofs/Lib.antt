@@ -1,0 +1,8 @@
+pub mod Edits
+pub mod Finding
+pub mod FormatLaws
+pub mod Formats
+pub mod Newlines
+pub mod ScriptLaws
+pub mod Scripts
+pub mod SedFiles

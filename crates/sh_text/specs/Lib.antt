@@ -1,0 +1,9 @@
+pub mod Commands
+pub mod Editing
+pub mod Finding
+pub mod Formats
+pub mod Laws
+pub mod Printing
+pub mod Redirection
+pub mod Scripts
+pub mod Sed
