@@ -7,3 +7,5 @@ mod Made
 mod Cleared
 mod Walked
 mod Fronts
+mod Found
+mod Edited

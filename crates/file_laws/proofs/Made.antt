@@ -197,7 +197,7 @@ copied files manner source place label old new none goes =
 
 -- 7. install.
 
-over-removed : (place : Spot) (mode : ℕ) (bytes : List ℕ) (old new : WorldData) → GoesThrough (act_in place.site (Remove place.path) >>= λ _. make_file place mode bytes) old new → MakesFileAt place mode bytes old new
+pub over-removed : (place : Spot) (mode : ℕ) (bytes : List ℕ) (old new : WorldData) → GoesThrough (act_in place.site (Remove place.path) >>= λ _. make_file place mode bytes) old new → MakesFileAt place mode bytes old new
 over-removed place mode bytes old new goes =
     let one = then-through (act_in place.site (Remove place.path)) (λ _. make_file place mode bytes) old new goes in
     let first = act_in-through place.site (Remove place.path) old one.1 (one.0, one.2) in

@@ -1,5 +1,5 @@
--- Laws of the commands on files.
-use Rattle.std.specs.Prelude.{◌≡◌, ℕ, Bool, List, [], ◌∷◌, ◌++◌, Option, Some, None, Result, Ok}
+-- Laws of the commands on files, and of sed.
+use Rattle.std.specs.Prelude.{◌≡◌, ℕ, Bool, true, false, List, [], ◌∷◌, ◌++◌, Option, Some, None, Result, Ok}
 use Rattle.br_path.specs.Path.{Names, rooted_text}
 use Rattle.br_path.specs.Files.{FileMap}
 use Rattle.br_path.specs.declared.area.Area.{Area}
@@ -13,6 +13,7 @@ use Rattle.tree_ops.specs.Walk.{components}
 use Rattle.sh_places.specs.declared.spot.Spot.{Spot}
 use Rattle.sh_places.specs.declared.kind.Kind.TheVariants.{File}
 use Rattle.sh_places.specs.Looks.{kind_at, bytes_at, mode_at}
+use Rattle.sh_places.specs.Finding.{found}
 use Rattle.sh_files.specs.Goals.{place_for, goal_place}
 use Rattle.sh_files.specs.Linking.{link_from}
 use Rattle.sh_files.specs.Moving.{move_from}
@@ -22,6 +23,9 @@ use Rattle.sh_files.specs.Removing.{remove_tree}
 use Rattle.sh_files.specs.Touching.{touch}
 use Rattle.sh_files.specs.Folders.{mkdir, make_path}
 use Rattle.sh_files.specs.ChangingModes.{chmod}
+use Rattle.sh_text.specs.declared.script.Script.{Script}
+use Rattle.sh_text.specs.Editing.{edited_text}
+use Rattle.sh_text.specs.Sed.{edit_file}
 use Rattle.file_laws.specs.Words.{GoesThrough, KeepsAll, KeepsNames, NamesAgain, MovesTo, MakesFileAt, RemovesAt, LeadsToFolder}
 
 -- 1. What commands keep, at their end and at their fault.
@@ -63,6 +67,12 @@ abbrev pub InstallMakesFile : Type 0
 InstallMakesFile = (files : FileMap) (mode : ℕ) (goal : _) (base : List ℕ) (source place : Spot) (old new : WorldData)
     → place_for goal base ≡ Ok place → GoesThrough (install_from files mode goal base source) old new
     → MakesFileAt place mode (bytes_at old files source) old new
+
+-- sed with `i` makes a file of its own where the name of its operand stands, a link there or not, with the edited bytes and the mode of the file that the operand leads to
+abbrev pub SedMakesFile : Type 0
+SedMakesFile = (files : FileMap) (script : Script) (word : List ℕ) (source place : Spot) (old new : WorldData)
+    → found old files word true ≡ Ok source → found old files word false ≡ Ok place → GoesThrough (edit_file files script word) old new
+    → MakesFileAt place (mode_at old source) (edited_text script (bytes_at old files source)) old new
 
 -- 3. Whole trees and walks.
 

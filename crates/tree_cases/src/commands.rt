@@ -1,9 +1,9 @@
 //! The commands that a script asks for, and what they answer.
 use crate::faults::word_of;
 use crate::tasks::Tasks;
-use br_path::{Files, Names};
+use br_path::Files;
 use case_text::{Page, Stopped};
-use sh_words::{WordFault, split};
+use sh_words::{Line, WordFault, split};
 use std::alloc::Global;
 use tree_ops::{ChangeFault, TreeOps};
 use tree_worlds::Reason;
@@ -18,27 +18,42 @@ pub(crate) fn command<T: TreeOps>(
     files: &Files,
     text: &[u8],
 ) -> Result<(), Stopped> {
-    let Some(words) = words(page.alloc(), text)? else {
-        return print_reason(page, Reason::Syntax);
+    let refusal = match line(page.alloc(), text)? {
+        None => Some(Reason::Syntax),
+        Some(line) => refusal(tasks, files, &line)?,
     };
-    match words.items.split_first() {
-        None => Err(Stopped),
-        Some((name, words)) => {
-            let refusal = tasks.command(files, name.as_slice(), words)?;
-            print_refusal(page, refusal)
+    print_refusal(page, refusal)
+}
+
+/// Runs a line, and gives the reason if it fails. Only a command on texts has output for a target.
+fn refusal<T: TreeOps>(
+    tasks: &mut Tasks<T>,
+    files: &Files,
+    line: &Line,
+) -> Result<Option<Reason>, Stopped> {
+    match line.words.items.split_first() {
+        Some((name, words)) if line.into.is_none() => {
+            match tasks.file_command(files, name.as_slice(), words)? {
+                Some(Reason::NotFound) => tasks.text_command(files, line),
+                refusal => Ok(refusal),
+            }
         }
+        _ => match tasks.text_command(files, line)? {
+            Some(Reason::NotFound) => Ok(Some(Reason::Syntax)),
+            refusal => Ok(refusal),
+        },
     }
 }
 
-/// The words of a line, if it is one without a redirect.
-fn words(alloc: Global, text: &[u8]) -> Result<Option<Names>, Stopped> {
+/// The words of a line and its target, if it is one.
+fn line(alloc: Global, text: &[u8]) -> Result<Option<Line>, Stopped> {
     if text.len() > MOST_BYTES {
         return Err(Stopped);
     }
     match split(alloc, text) {
-        Ok(line) if line.into.is_none() => Ok(Some(line.words)),
+        Ok(line) => Ok(Some(line)),
         Err(WordFault::Memory) => Err(Stopped),
-        _ => Ok(None),
+        Err(_) => Ok(None),
     }
 }
 

@@ -3,7 +3,7 @@ ghost use Rattle.tree_ops.specs.Tree.{IsTree};
 
 use crate::act::Look;
 use crate::faults::print_change;
-use crate::shows::{put_label, put_mode, put_rooted};
+use crate::shows::{put_bytes, put_label, put_mode, put_rooted};
 use crate::text::is_walk;
 use br_path::Path;
 use case_text::{Page, Stopped};
@@ -20,7 +20,7 @@ pub(crate) fn look<T: TreeOps>(
         Look::Lookup => lookup(page, tree.lookup(at)),
         Look::Mode => mode(page, tree.mode(at)),
         Look::Text => text(page, tree.text(at)),
-        Look::Bytes => text(page, tree.bytes(at)),
+        Look::Bytes => bytes(page, tree.bytes(at)),
         Look::Children => children(page, tree, at),
     }
 }
@@ -59,6 +59,17 @@ fn text(page: &mut Page, text: Option<&[u8]>) -> Result<(), Stopped> {
         Some(text) => {
             page.put(b"= \"")?;
             page.line(text, b"\"")
+        }
+    }
+}
+
+fn bytes(page: &mut Page, bytes: Option<&[u8]>) -> Result<(), Stopped> {
+    match bytes {
+        None => page.line(b"= none", b""),
+        Some(bytes) => {
+            page.put(b"= ")?;
+            put_bytes(page, bytes)?;
+            page.end()
         }
     }
 }

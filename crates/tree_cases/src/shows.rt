@@ -53,8 +53,26 @@ fn put_entry<T: TreeOps>(page: &mut Page, tree: &T, at: &Path) -> Result<(), Sto
 fn put_file<T: TreeOps>(page: &mut Page, tree: &T, at: &Path, label: Label) -> Result<(), Stopped> {
     put_mode(page, tree.mode(at).ok_or(Stopped)?)?;
     put_label(page, label)?;
-    page.put(b" \"")?;
-    page.line(tree.bytes(at).ok_or(Stopped)?, b"\"")
+    page.put(b" ")?;
+    put_bytes(page, tree.bytes(at).ok_or(Stopped)?)?;
+    page.end()
+}
+
+/// Puts the bytes of a file in quotes, each that isn't printable, and `{`, as a line writes it.
+pub(crate) fn put_bytes(page: &mut Page, bytes: &[u8]) -> Result<(), Stopped> {
+    page.put(b"\"")?;
+    for byte in bytes {
+        put_byte(page, *byte)?;
+    }
+    page.put(b"\"")
+}
+
+fn put_byte(page: &mut Page, byte: u8) -> Result<(), Stopped> {
+    if byte >= 32 && byte <= 126 && byte != b'{' {
+        return page.put(&[byte]);
+    }
+    let spelled = format!(in page.alloc(); "{{0x{byte:02x}}}")?;
+    page.put(spelled.as_bytes())
 }
 
 /// Puts a path with a `/` before each name.

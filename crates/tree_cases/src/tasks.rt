@@ -10,7 +10,7 @@ ghost use Rattle.tree_cases.specs.Tasks.{IsLeft, AreLeft, AreSound};
 use crate::act::Rights;
 use br_path::{Area, Bytes, Files, Memory, Path};
 use case_text::Stopped;
-use sh_files::run;
+use sh_words::Line;
 use std::alloc::Global;
 use std::marker::Model;
 use std::mem::replace;
@@ -109,8 +109,8 @@ impl<T: TreeOps> Tasks<T> {
         Ok(self.world.show(number, owner, tree)?)
     }
 
-    /// Runs a command, and gives the reason if it fails.
-    pub(crate) fn command(
+    /// Runs a command on files, and gives the reason if it fails.
+    pub(crate) fn file_command(
         &mut self,
         files: &Files,
         name: &[u8],
@@ -120,13 +120,28 @@ impl<T: TreeOps> Tasks<T> {
             return Err(Stopped);
         }
         let tasks = replace(self, Tasks::new(self.alloc)?);
-        let (tasks, refusal) = tasks.after(files, name, words)?;
+        let (tasks, refusal) = tasks.after_files(files, name, words)?;
         *self = tasks;
         Ok(refusal)
     }
 
-    /// The tasks after a command, and the reason if it fails. If it is out of memory, they are let go.
-    fn after(
+    /// Runs a line whose command is one on texts, and gives the reason if it fails.
+    pub(crate) fn text_command(
+        &mut self,
+        files: &Files,
+        line: &Line,
+    ) -> Result<Option<Reason>, Stopped> {
+        if line.words.items.len() > MOST_WORDS {
+            return Err(Stopped);
+        }
+        let tasks = replace(self, Tasks::new(self.alloc)?);
+        let (tasks, refusal) = tasks.after_texts(files, line)?;
+        *self = tasks;
+        Ok(refusal)
+    }
+
+    /// The tasks after a command on files, and the reason if it fails. If it is out of memory, they are let go.
+    fn after_files(
         self,
         files: &Files,
         name: &[u8],
@@ -139,7 +154,33 @@ impl<T: TreeOps> Tasks<T> {
             mut world,
             ended,
         } = self;
-        let refusal = match run(alloc, &mut world, files, name, words) {
+        let refusal = match sh_files::run(alloc, &mut world, files, name, words) {
+            Ok(()) => None,
+            Err(CommandError::Failed(reason)) => Some(reason),
+            Err(CommandError::Memory) => return Err(Stopped),
+        };
+        let tasks = Tasks {
+            alloc,
+            world,
+            ended,
+        };
+        Ok((tasks, refusal))
+    }
+
+    /// The same after a line whose command is one on texts.
+    fn after_texts(
+        self,
+        files: &Files,
+        line: &Line,
+    ) -> Result<(Tasks<T>, Option<Reason>), Stopped>
+        requires { length line.now.words < 2 ^ 32 }
+    {
+        let Tasks {
+            alloc,
+            mut world,
+            ended,
+        } = self;
+        let refusal = match sh_text::run(alloc, &mut world, files, line) {
             Ok(()) => None,
             Err(CommandError::Failed(reason)) => Some(reason),
             Err(CommandError::Memory) => return Err(Stopped),

@@ -3,8 +3,8 @@ use Rattle.tree_worlds.specs.Kept.{KeepsUnlessMemory}
 use Rattle.tree_worlds.specs.World.{world_data}
 use Rattle.tree_worlds.specs.declared.reason.CommandError.TheVariants.{Failed}
 use Rattle.tree_cases.proofs.Ages.{AreTasks-keeps}
-use Rattle.tree_cases.proofs.tasks.Tasks.after.Goals as goal
-use Rattle.tree_cases.proofs.tasks.Tasks.after.Goals.{in-Ok, in-Err-Failed}
+use Rattle.tree_cases.proofs.tasks.Tasks.after_files.Goals as goal
+use Rattle.tree_cases.proofs.tasks.Tasks.after_files.Goals.{in-Ok, in-Err-Failed}
 
 pub invariant_of-tasks : goal.invariant_of-tasks
 invariant_of-tasks g c = elim c.match-run.branch [
