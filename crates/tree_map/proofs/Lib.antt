@@ -12,3 +12,6 @@ pub mod Neighbours
 pub mod Children
 pub mod Greatest
 pub mod Tally
+pub mod Carried
+pub mod Shifted
+pub mod Gathered

@@ -1,5 +1,5 @@
 -- Maps by the lists that they are built of.
-use Rattle.std.proofs.Common.{◌+◌, ◌-◌, ◌≡◌, Bool, true, false, not, cond, List, ◌++◌, map, length, Option, None, Ordering, refl, sym, ap, ◌∙◌}
+use Rattle.std.proofs.Common.{◌+◌, ◌-◌, ◌≡◌, Bool, true, false, not, cond, List, ◌++◌, length, Option, None, Ordering, refl, sym, ap, ◌∙◌}
 use Rattle.std.specs.FinMap as fin
 use Rattle.std.specs.FinMap.{FinMap, IsAntisymmetric, find}
 use Rattle.std.specs.FinMap.Entries.{where_key, find-where_key, is_sorted-where_key}
@@ -11,10 +11,9 @@ use Rattle.std.proofs.lemmas.Cmp.{eq_by_cmp_equiv, tied_itself}
 use Rattle.br_path.specs.Path.{Names, path_cmp, rooted_text}
 use Rattle.br_path.proofs.Paths.{names_decide}
 use Rattle.br_path.proofs.PathOrder.{path_total, path_same}
-use Rattle.tree_ops.specs.declared.entry.Node.{Node}
 use Rattle.tree_ops.specs.Pen.{Counts}
 use Rattle.tree_ops.specs.Tree.{Tree, laid}
-use Rattle.tree_ops.specs.Change.{is_path, moved, moved_path, recounted, counted_anew}
+use Rattle.tree_ops.specs.Change.{is_path, recounted, counted_anew}
 use Rattle.tree_ops.proofs.Finds.{find-both, get-laid, get-kept}
 use Rattle.tree_ops.proofs.Sound.{same_tests}
 use Rattle.tree_map.specs.NameTable.{NameMap}
@@ -70,12 +69,6 @@ pub path_tests : (a b : Names) → is_path a b ≡ eq_by_cmp path_cmp a b
 path_tests a b = same_tests (is_path a b) (eq_by_cmp path_cmp a b)
     (λ is. ap (λ (b : Names). eq_by_cmp path_cmp a b) (sym ((names_decide a b).0 is)) ∙ ap is_eq (tied_itself path_total a))
     (λ is. (names_decide a b).1 (path_same a b ((Equal-is (path_cmp a b)).0 is)))
-
-pub moved-listed : (m : NameMap) (old at : Names)
-    → fin.from_entries {R = path_cmp} (map (λ entry. (moved_path old at entry.0, entry.1)) (where_key path_cmp (λ path. not (is_path at path)) (fin.entries m))) ≡ moved m old at
-moved-listed m old at =
-    let made : List (Names × Node) → NameMap = λ es. fin.from_entries (map (λ entry. (moved_path old at entry.0, entry.1)) es) in
-    ap made ((λ i. where_key path_cmp (λ path. not (path_tests at path i)) (fin.entries m)) ∙ sym (entries-removed path_total path_same m at))
 
 pub counted-anew : (pen : Counts) (old new : Tree) (m : NameMap) → new.names ≡ m
     → counted_anew pen (fin.len old.names, sum_by (λ entry. length (rooted_text entry.0)) (fin.entries old.names)) (fin.len m, sum_by (λ entry. length (rooted_text entry.0)) (fin.entries m)) ≡ recounted pen old new

@@ -3,6 +3,7 @@
 
 mod counts;
 mod labels;
+mod moving;
 mod names;
 mod ops;
 mod paths;

@@ -1,5 +1,5 @@
 //! The names of a tree, and what they make up.
-ghost use Rattle.std.specs.Prelude.{◌≡◌, ◌<◌, ◌^◌, ◌++◌, ◌⊎◌, All, OnOk, OnErr, IfOk, IfErr, not, map, true, false, [], ◌∷◌, length};
+ghost use Rattle.std.specs.Prelude.{◌≡◌, ◌<◌, ◌^◌, ◌++◌, ◌⊎◌, All, OnOk, OnErr, IfOk, IfErr, not, is_some, true, false, [], ◌∷◌, length};
 ghost use Rattle.std.specs.FinMap as fin;
 ghost use Rattle.std.specs.FinMap.Entries.{where_key};
 ghost use Rattle.std.specs.List.{list_any, filter_map, sum_by};
@@ -8,12 +8,14 @@ ghost use Rattle.std.specs.BTreeMap.{IsOrdered};
 ghost use Rattle.br_path.specs.Path.{IsPath, path_cmp, rooted_text};
 ghost use Rattle.tree_ops.specs.declared.change.ChangeFault.TheVariants.{TooLong as too_long, Memory as no_memory};
 ghost use Rattle.tree_ops.specs.Tree.{child_name, has_label, is_leaf, is_used, laid};
-ghost use Rattle.tree_ops.specs.Change.{is_below, is_path, moved, moved_path, relabelled};
+ghost use Rattle.tree_ops.specs.Change.{is_below, relabelled};
+ghost use Rattle.tree_map.specs.Moving.{moves_below};
 ghost use Rattle.tree_map.specs.Parts.{leads_too_far};
 ghost use Rattle.tree_map.specs.NameTable.{names_of, hides, is_label};
 
 use crate::counts::{count_down, count_moved, count_up};
-use crate::paths::{behind, child_name, is_below, is_path, leads_too_far, moved_path};
+use crate::moving::{Move, moves_listed};
+use crate::paths::{behind, child_name, is_below, leads_too_far};
 use br_path::{Bytes, Memory, Names, Path};
 use std::alloc::Global;
 use std::collections::BTreeMap;
@@ -217,21 +219,22 @@ impl NameTable {
         table_of(alloc, pairs)
     }
 
-    /// The names after a move.
-    pub(crate) fn moved(
+    /// Where each name below the path moves to with it. The time is that of a look-up, and of one step for each of them.
+    pub(crate) fn moves(
         &self,
         alloc: Global,
         old: &Path,
         at: &Path,
-    ) -> Result<NameTable, ChangeFault>
-        ensures ok { IfOk result (λ t. t ≡ moved self.now old.now at.now) }
+    ) -> Result<Vec<Move>, ChangeFault>
+        requires { is_some (fin.get self.now old.now) ≡ true }
+        ensures ok { IfOk result (λ moves. moves.items ≡ moves_below old.now at.now (fin.entries self.now)) }
         ensures fits { OnOk result (list_any (leads_too_far old.now at.now) (fin.entries self.now) ≡ false) }
         ensures err { IfErr result (λ fault. (fault ≡ no_memory) ⊎ ((fault ≡ too_long) × (list_any (leads_too_far old.now at.now) (fin.entries self.now) ≡ true))) }
     {
-        match moved_pairs(alloc, &self.names, old, at) {
-            Err(fault) => Err(fault),
-            Ok(pairs) => Ok(table_of(alloc, pairs)?),
+        if leads_too_far(old, at, old) {
+            return Err(ChangeFault::TooLong);
         }
+        moves_listed(alloc, &self.names, old, at)
     }
 }
 
@@ -302,35 +305,4 @@ fn names_listed(
         from = behind(alloc, at, path)?;
     }
     Ok(below)
-}
-
-/// Adds a copy of a node, at another path.
-fn push_name(pairs: &mut Vec<(Path, Node)>, path: Path, node: &Node) -> Result<(), Memory>
-    ensures { OnOk result (pairs.new.items ≡ pairs.old.items ++ (path, node.now) ∷ []) }
-{
-    pairs.push((path, node.copy()?))?;
-    Ok(())
-}
-
-/// Copies of all names but the one at the place that is moved to, where the move leads.
-fn moved_pairs(
-    alloc: Global,
-    names: &BTreeMap<Path, Node>,
-    old: &Path,
-    at: &Path,
-) -> Result<Vec<(Path, Node)>, ChangeFault>
-    ensures ok { IfOk result (λ pairs. (list_any (leads_too_far old.now at.now) names.now.entries ≡ false) × (pairs.items ≡ map (λ entry. (moved_path old.now at.now entry.0, entry.1)) (where_key path_cmp (λ path. not (is_path at.now path)) names.now.entries))) }
-    ensures err { IfErr result (λ fault. (fault ≡ no_memory) ⊎ ((fault ≡ too_long) × (list_any (leads_too_far old.now at.now) names.now.entries ≡ true))) }
-    ensures ordered { IsOrdered path_cmp names.now }
-{
-    let mut pairs = Vec::new(alloc);
-    for (path, node) in names {
-        if leads_too_far(old, at, path) {
-            return Err(ChangeFault::TooLong);
-        }
-        if !is_path(at, path) {
-            push_name(&mut pairs, moved_path(alloc, old, at, path)?, node)?;
-        }
-    }
-    Ok(pairs)
 }

@@ -197,7 +197,7 @@ impl TreeOps for MapTree {
         result
     }
 
-    /// With n names in the tree the time is in proportion to n log n, since all names are copied.
+    /// With n names in the tree, of which m move, the time is in proportion to m log n.
     fn rename(
         &mut self,
         alloc: Global,

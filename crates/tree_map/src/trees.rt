@@ -7,14 +7,15 @@ ghost use Rattle.tree_ops.specs.Tree.{node_at};
 ghost use Rattle.tree_ops.specs.Change.{new_name_fault, no_folder_fault, parent_fault, IsChecked, IsChange, MakeDir, MakeLink, Remove, Rename, Populate, MakeFile, count_if, Write, Append, SetMode, AddName, has_names, remove_fault, replace_fault, label_of, recounted, contents_at, with_contents, is_own};
 ghost use Rattle.tree_map.specs.NameTable.{is_label};
 ghost use Rattle.tree_map.specs.Parts.{shown, with_name, without_name, with_label, without_label, without_unused, renewed, IsFile, IsRemovable, without_gone, move_fault};
-ghost use Rattle.std.specs.Prelude.{None, Some, false, true, IfOk, ◌++◌, length, ◌<◌, ◌^◌};
+ghost use Rattle.std.specs.Prelude.{None, Some, false, true, IfOk, is_some, ◌+◌, ◌++◌, length, ◌<◌, ◌^◌};
 ghost use Rattle.tree_ops.specs.Tree.{is_dir};
 ghost use Rattle.tree_ops.specs.Held.{IsSealed};
 ghost use Rattle.tree_map.specs.Parts.{sealed_by, uncounted};
 ghost use Rattle.br_path.specs.Path.{Names};
 ghost use Rattle.tree_ops.specs.Change.{is_path};
 ghost use Rattle.tree_ops.specs.Pen.{counts_of, with_counts, within_limits};
-ghost use Rattle.tree_ops.specs.Tree.{Tree};
+ghost use Rattle.tree_ops.specs.Tree.{Tree, IsTree};
+ghost use Rattle.tree_map.specs.Moving.{counts_moved};
 
 use crate::labels::{labels_again, labels_over, set_back};
 use crate::names::NameTable;
@@ -388,6 +389,21 @@ impl MapTree {
         self.check_replace(at, old)
     }
 
+    /// The pen after a move of a name and so many below it, unless a count passes its limit.
+    fn counted_move(&self, old: &Path, at: &Path, below: usize, pen: &Pen) -> Option<Pen>
+        requires { below < 2 ^ 63 }
+        ensures { result ≡ within_limits (with_counts pen.now (counts_moved (counts_of pen.now) old.now at.now (below + 1) (is_some (node_at (shown self.now) at.now)))) }
+    {
+        let count = below + 1;
+        let gone = usize::from(self.node(at).is_some());
+        let was = rooted_length(old) as u128;
+        let is = rooted_length(at) as u128;
+        pen.counted_anew(
+            (count + gone, count as u128 * was + gone as u128 * is),
+            (count, count as u128 * is),
+        )
+    }
+
     /// Moves a name and all below it to another path.
     fn move_names(
         &mut self,
@@ -396,20 +412,21 @@ impl MapTree {
         at: &Path,
         pen: &mut Pen,
     ) -> Result<(), ChangeFault>
+        requires sound { IsTree (shown self.old) }
         requires refused { move_fault (shown self.old) old.now at.now None ≡ None }
         requires other { is_path old.now at.now ≡ false }
         ensures { IsChange uncounted (Rename old.now at.now) (shown self.old, pen.old) result (shown self.new, pen.new) }
     {
-        let names = match self.names.moved(alloc, old, at) {
+        let moves = match self.names.moves(alloc, old, at) {
             Err(fault) => return Err(fault),
-            Ok(names) => names,
+            Ok(moves) => moves,
         };
-        let after = match self.counted(&names, pen) {
+        let after = match self.counted_move(old, at, moves.len(), pen) {
             None => return Err(ChangeFault::NoSpace),
             Some(after) => after,
         };
         let gone = self.label_at(at);
-        self.names = names;
+        self.names.carry(old, at, moves.as_slice())?;
         self.drop_gone(gone);
         *pen = after;
         Ok(())
@@ -422,6 +439,7 @@ impl MapTree {
         at: &Path,
         pen: &mut Pen,
     ) -> Result<(), ChangeFault>
+        requires { IsTree (shown self.old) }
         ensures { IsChange uncounted (Rename old.now at.now) (shown self.old, pen.old) result (shown self.new, pen.new) }
     {
         match self.check_move(alloc, old, at) {

@@ -1,7 +1,7 @@
 use Rattle.std.proofs.Common.{◌≡◌, sym, ap, subst}
 use Rattle.std.specs.Ordering.{is_gt}
 use Rattle.std.proofs.lemmas.Result.{IfOk-weaker}
-use Rattle.br_path.specs.Path.{Names, StartsWith}
+use Rattle.br_path.specs.Path.{Names}
 use Rattle.tree_map.specs.NameTable.{IsBehind}
 use Rattle.tree_map.proofs.Children.{behind-itself, behind-greatest, depth-below}
 use Rattle.tree_map.proofs.Neighbours.{Less-is_below}

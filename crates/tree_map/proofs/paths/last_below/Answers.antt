@@ -1,4 +1,4 @@
-use Rattle.std.proofs.Common.{◌≡◌, ◌<◌, ◌≤◌, length, arith}
+use Rattle.std.proofs.Common.{◌≤◌, length, arith}
 use Rattle.br_path.specs.Path.{rooted_text}
 use Rattle.tree_map.proofs.Greatest.{reach-more, reach-last, room_used}
 use Rattle.tree_map.proofs.paths.last_below.Goals as goal
