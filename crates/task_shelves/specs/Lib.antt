@@ -1,0 +1,3 @@
+pub mod Shelf
+pub mod Sealed
+pub mod Labels
