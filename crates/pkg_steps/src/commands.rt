@@ -10,7 +10,7 @@ use tree_worlds::{CommandError, World};
 
 /// What runs lines, and copies the source of a package.
 ///
-/// After a failure the world is as the changes before it left it; after want of memory it is only let go.
+/// After a failure the world is as the changes before it left it; if it is out of memory, the world is only let go.
 pub trait Commands<T: TreeOps> {
     /// What a line does, and the copy of the source.
     ghost shell: { Self → Shell };
