@@ -1,11 +1,10 @@
 -- What a change of one area's tree that is made comes to.
-use Rattle.std.proofs.Common.{◌≡◌, ◌≢◌, Bool, true, false, not, cond, Result, Ok, Err, refl, sym, ap, subst, ◌∙◌}
+use Rattle.std.proofs.Common.{◌≡◌, ◌≢◌, Bool, true, false, not, cond, Result, Ok, Err, refl, subst}
 use Rattle.br_path.specs.declared.area.Area.{Area}
 use Rattle.br_path.specs.declared.area.Area.TheVariants.{Build, Host, Staging, Target}
 use Rattle.tree_ops.specs.declared.change.ChangeFault.TheVariants.{ReadOnly}
 use Rattle.tree_ops.specs.Tree.{Tree}
-use Rattle.tree_ops.specs.Change.{Change, State, changed, fault_of, after}
-use Rattle.tree_ops.proofs.Outcomes.{after-changed}
+use Rattle.tree_ops.specs.Change.{Change, State, changed}
 use Rattle.tree_worlds.specs.declared.reason.Reason.TheVariants.{Operand, Change as for_change}
 use Rattle.tree_worlds.specs.World.{WorldData, AreaTrees, may_change, is_asked, tree_in, with_tree, state_in, with_state, both_mapped, acted}
 

@@ -1,5 +1,5 @@
 -- rm -r leaves nothing at or below its place, and all else as it was.
-use Rattle.std.proofs.Common.{ℕ, zero, suc, ◌≡◌, ◌≢◌, inl, inr, Bool, true, false, cond, List, [], ◌∷◌, ◌++◌, reverse, Option, Some, None, Result, Ok, Err, refl, sym, ap, subst, ◌∙◌}
+use Rattle.std.proofs.Common.{ℕ, zero, suc, ◌≡◌, true, false, List, [], ◌∷◌, ◌++◌, reverse, Option, Some, None, Ok, refl, sym, ap, subst, ◌∙◌}
 use Rattle.std.proofs.lemmas.Bool.{true≢false}
 use Rattle.std.proofs.lemmas.List.{append-nil}
 use Rattle.br_path.specs.Path.{Names}
@@ -9,7 +9,7 @@ use Rattle.br_path.proofs.PathOrder.{path_total, path_same}
 use Rattle.tree_ops.specs.declared.change.ChangeFault.TheVariants.{Outside}
 use Rattle.tree_ops.specs.declared.entry.Node.{Node}
 use Rattle.tree_ops.specs.Tree.{Tree, IsTree, node_at}
-use Rattle.tree_ops.specs.Change.{Change, MakeFile, Write, Append, SetMode, AddName, MakeLink, MakeDir, Remove, Rename, Populate, State, fault_if, remove_fault, is_path, is_at_or_below}
+use Rattle.tree_ops.specs.Change.{Change, MakeFile, Write, Append, SetMode, AddName, MakeLink, MakeDir, Remove, Rename, Populate, fault_if, remove_fault, is_path, is_at_or_below}
 use Rattle.tree_ops.proofs.Heads.{rows, rest-of_head, head-of_rest}
 use Rattle.tree_ops.proofs.Finds.{get-removed, get-left}
 use Rattle.tree_ops.proofs.Faults.{both_none, bare-remove}
@@ -17,7 +17,6 @@ use Rattle.tree_ops.proofs.Kept.{IsTree-changed}
 use Rattle.tree_ops.proofs.Outcomes.{after-changed}
 use Rattle.tree_ops.proofs.Sound.{sound-of}
 use Rattle.tree_worlds.specs.World.{WorldData, acted, tree_in, state_in}
-use Rattle.tree_worlds.specs.Program.{Program, ◌>>=◌, run}
 use Rattle.tree_worlds.specs.Kept.{left_by}
 use Rattle.sh_places.specs.declared.spot.Site.{Site}
 use Rattle.sh_places.specs.declared.spot.Site.TheVariants.{Tree as in_tree}
@@ -26,8 +25,8 @@ use Rattle.sh_places.specs.Looks.{names_at}
 use Rattle.sh_places.specs.Finding.{spot}
 use Rattle.sh_places.specs.Parts.{act_in}
 use Rattle.sh_files.specs.Removing.{remove_entry, remove_below, remove_tree}
-use Rattle.file_laws.specs.Words.{GoesThrough, stands, KeepsOthers, Removes, RemovesAt}
-use Rattle.file_laws.proofs.Made.{IsMade, is-made}
+use Rattle.file_laws.specs.Words.{GoesThrough, stands, KeepsOthers, RemovesAt}
+use Rattle.file_laws.proofs.Made.{is-made}
 use Rattle.file_laws.proofs.Makes.{Makes, IsKeptBy, kept-Makes, Makes-each, Makes-act_in}
 use Rattle.file_laws.proofs.Through.{then-through, act_in-through}
 

@@ -1,5 +1,5 @@
 -- What sed makes of a file in place.
-use Rattle.std.proofs.Common.{ℕ, ◌≡◌, Bool, true, false, List, Option, Some, None, Result, Ok, Err}
+use Rattle.std.proofs.Common.{ℕ, ◌≡◌, true, false, List, Option, Some, None, Ok}
 use Rattle.br_path.specs.Files.{FileMap}
 use Rattle.tree_ops.specs.declared.change.ChangeFault.TheVariants.{Absent, IsDir}
 use Rattle.tree_worlds.specs.declared.operand.Operand.{Operand}
@@ -15,7 +15,7 @@ use Rattle.sh_places.specs.Finding.{found, spot_of}
 use Rattle.sh_places.specs.Parts.{resolve}
 use Rattle.sh_text.specs.declared.script.Script.{Script}
 use Rattle.sh_text.specs.Editing.{edited_text}
-use Rattle.sh_text.specs.Sed.{edited_at, replace, edit_file}
+use Rattle.sh_text.specs.Sed.{edited_at, replace, edit_operand, edit_file}
 use Rattle.file_laws.specs.Words.{GoesThrough, MakesFileAt}
 use Rattle.file_laws.proofs.Through.{never, attempt-through, known-through}
 use Rattle.file_laws.proofs.Found.{found-spot}
@@ -35,8 +35,8 @@ pub edited-file : (files : FileMap) (script : Script) (word : List ℕ) (source 
 edited-file files script word source place old new leads stands goes =
     let put : Spot → List ℕ → Spot → Program (Unit {0}) = λ from text at. replace at (mode_at old from) text in
     let edit : Operand → Spot → WorldData → Program (Unit {0}) = λ operand from world.
-        edited_at script (bytes_at world files from) (kind_at world files from) >>= λ text. resolve operand false >>= λ at. replace at (mode_at world from) text in
-    let one = attempt-through (operand_of old files word) (λ operand. resolve operand true >>= λ from. Look >>= edit operand from) old new goes in
+    edited_at script (bytes_at world files from) (kind_at world files from) >>= λ text. resolve operand false >>= λ at. replace at (mode_at world from) text in
+    let one = attempt-through (operand_of old files word) (edit_operand files script) old new goes in
     let operand = one.0 in
     let two = known-through (spot_of old true operand) (λ from. Look >>= edit operand from) old new source (found-spot files word true operand source old one.1 leads) one.2 in
     let three = edited-through script (bytes_at old files source) (kind_at old files source) (λ text. resolve operand false >>= put source text) old new two in

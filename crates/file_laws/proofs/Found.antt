@@ -1,5 +1,5 @@
 -- The place of a word that was read.
-use Rattle.std.proofs.Common.{ℕ, ◌≡◌, Bool, List, Result, Ok, Err, sym, ap, ◌∙◌}
+use Rattle.std.proofs.Common.{ℕ, ◌≡◌, Bool, List, Result, Ok, sym, ap, ◌∙◌}
 use Rattle.br_path.specs.Files.{FileMap}
 use Rattle.br_path.specs.Gives.{◌>>=◌}
 use Rattle.tree_worlds.specs.World.{WorldData}

@@ -20,10 +20,9 @@ use Rattle.tree_ops.proofs.Inserts.{get-insert_same}
 use Rattle.tree_worlds.specs.declared.reason.Reason.{Reason}
 use Rattle.tree_worlds.specs.declared.reason.Reason.TheVariants.{Change as for_change}
 use Rattle.tree_worlds.specs.World.{WorldData, tree_in, both_mapped, acted}
-use Rattle.tree_worlds.specs.Program.{Program, Done, Refuse, Act, ◌>>=◌, run}
+use Rattle.tree_worlds.specs.Program.{Refuse}
 use Rattle.tree_worlds.specs.Kept.{left_by}
 use Rattle.tree_worlds.specs.declared.operand.Operand.TheVariants.{Place}
-use Rattle.sh_places.specs.declared.spot.Site.{Site}
 use Rattle.sh_places.specs.declared.spot.Site.TheVariants.{Tree as in_tree}
 use Rattle.sh_places.specs.declared.spot.Spot.{Spot}
 use Rattle.sh_places.specs.declared.kind.Kind.{Kind}
@@ -34,7 +33,7 @@ use Rattle.sh_files.specs.Folders.{is_there, is_dots, folder_at, ensure_folder, 
 use Rattle.file_laws.specs.Words.{GoesThrough, KeepsAll, stands, LeadsToFolder}
 use Rattle.file_laws.proofs.Stays.{all-kept, ensured-folder, ensured-folders, NewName}
 use Rattle.file_laws.proofs.Makes.{kept-Makes}
-use Rattle.file_laws.proofs.Made.{IsMade, is-made}
+use Rattle.file_laws.proofs.Made.{is-made}
 use Rattle.file_laws.proofs.Through.{same_Ok, never, then-through, attempt-through, act_in-through}
 use Rattle.file_laws.proofs.Walked.{still-resolved}
 

@@ -1,5 +1,5 @@
 -- What ln, mv, cp and install make of a source.
-use Rattle.std.proofs.Common.{ℕ, ◌+◌, ◌≡◌, ◌≢◌, inl, inr, Bool, true, false, cond, List, Option, Some, None, Result, Ok, Err, refl, sym, ap, subst, ◌∙◌, arith}
+use Rattle.std.proofs.Common.{ℕ, ◌≡◌, ◌≢◌, inl, inr, Bool, true, false, cond, List, Option, Some, None, Ok, refl, sym, ap, subst, ◌∙◌, arith}
 use Rattle.std.specs.FinMap as fin
 use Rattle.std.specs.FinMap.{FinMap}
 use Rattle.std.proofs.lemmas.Bool.{true≢false}
@@ -21,20 +21,19 @@ use Rattle.tree_ops.proofs.Sound.{at-used}
 use Rattle.tree_ops.proofs.Outcomes.{after-changed}
 use Rattle.tree_ops.specs.Laws.{IsMoved}
 use Rattle.tree_ops.proofs.Renaming.{moved-whole}
-use Rattle.tree_worlds.specs.declared.reason.Reason.{Reason}
 use Rattle.tree_ops.specs.declared.change.ChangeFault.TheVariants.{IsDir}
 use Rattle.tree_worlds.specs.declared.reason.Reason.TheVariants.{Same, Change as for_change}
-use Rattle.tree_worlds.specs.World.{WorldData, acted, tree_in, with_tree, state_in, with_state}
-use Rattle.tree_worlds.specs.Program.{Program, Done, Refuse, ◌>>=◌, run}
+use Rattle.tree_worlds.specs.World.{WorldData, acted, tree_in, state_in}
+use Rattle.tree_worlds.specs.Program.{Program, Done, ◌>>=◌, run}
 use Rattle.sh_places.specs.declared.spot.Site.TheVariants.{Tree as in_tree}
 use Rattle.sh_places.specs.declared.spot.Spot.{Spot}
 use Rattle.sh_places.specs.declared.kind.Kind.{Kind}
 use Rattle.sh_places.specs.declared.kind.Kind.TheVariants.{Dir, Link, File}
 use Rattle.sh_places.specs.Spot.{is_spot}
 use Rattle.sh_places.specs.Looks.{kind_at, bytes_at, mode_at, text_at}
-use Rattle.sh_places.specs.Parts.{attempt, choose, act_in}
+use Rattle.sh_places.specs.Parts.{attempt, act_in}
 use Rattle.sh_files.specs.Goals.{place_for, goal_place}
-use Rattle.sh_files.specs.Room.{is_link, make_room, make_file}
+use Rattle.sh_files.specs.Room.{is_link, make_file}
 use Rattle.sh_files.specs.Linking.{linkable, is_same, clear, name_of, link_from, place_within}
 use Rattle.sh_files.specs.Moving.{is_something, move_to, move_from}
 use Rattle.sh_files.specs.Install.{file_label, is_source, replace, install_at, install_from}

@@ -1,8 +1,7 @@
 -- Sites that are compared, and the place of a source at its goal.
-use Rattle.std.proofs.Common.{ℕ, ◌≡◌, ◌≢◌, Bool, true, false, not, cond, ◌&&◌, List, [], ◌∷◌, ◌++◌, Option, Some, None, Result, Ok, Err, refl, sym, ap, subst, ◌∙◌}
+use Rattle.std.proofs.Common.{ℕ, ◌≡◌, ◌≢◌, Bool, true, false, not, cond, ◌&&◌, List, Option, Some, None, Result, Ok, Err, refl, sym, ap, ◌∙◌}
 use Rattle.std.specs.Option.{option_map}
 use Rattle.std.proofs.lemmas.Bool.{true≢false}
-use Rattle.br_path.specs.Path.{Names}
 use Rattle.br_path.specs.Files.{FileMap}
 use Rattle.br_path.specs.declared.area.Area.{Area}
 use Rattle.br_path.specs.declared.area.Area.TheVariants.{Build, Host, Staging, Target}

@@ -3,7 +3,7 @@ use Rattle.std.proofs.Common.{ℕ, zero, suc, ◌≡◌, inl, inr, Bool, true, f
 use Rattle.std.specs.FinMap as fin
 use Rattle.std.specs.List.{list_all}
 use Rattle.std.specs.Option.{is_some, option_map}
-use Rattle.br_path.specs.Path.{Names, path_cmp, parent_of}
+use Rattle.br_path.specs.Path.{Names, parent_of}
 use Rattle.br_path.specs.Files.{FileMap}
 use Rattle.br_path.specs.declared.area.Area.{Area}
 use Rattle.br_path.proofs.PathOrder.{path_total, path_same}
@@ -18,7 +18,7 @@ use Rattle.tree_ops.proofs.Inserts.{get-insert_cases}
 use Rattle.tree_ops.proofs.Growing.{get-relabelled}
 use Rattle.tree_ops.proofs.Outcomes.{after-changed}
 use Rattle.tree_ops.proofs.Faults.{both_none, no_fault, nothing}
-use Rattle.tree_worlds.specs.World.{WorldData, acted, tree_in, state_in}
+use Rattle.tree_worlds.specs.World.{WorldData, state_in}
 use Rattle.tree_worlds.specs.Program.{run}
 use Rattle.tree_worlds.specs.Kept.{left_by}
 use Rattle.tree_worlds.specs.declared.operand.Operand.{Operand}
@@ -31,7 +31,7 @@ use Rattle.sh_places.specs.declared.kind.Kind.{Kind}
 use Rattle.sh_places.specs.declared.kind.Kind.TheVariants as kinds
 use Rattle.sh_places.specs.Looks.{kind_at, input_kind, mode_at, names_at}
 use Rattle.sh_places.specs.Finding.{spot, spot_of, found, walked}
-use Rattle.sh_places.specs.Parts.{attempt, choose, each, act_in}
+use Rattle.sh_places.specs.Parts.{each}
 use Rattle.tree_ops.specs.Walk.{components}
 use Rattle.tree_worlds.specs.Operand.{operand_of}
 use Rattle.sh_files.specs.Touching.{touch, touch_kind, touch_at, touch_word}

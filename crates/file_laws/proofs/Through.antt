@@ -6,7 +6,7 @@ use Rattle.tree_ops.specs.declared.change.ChangeFault.TheVariants.{ReadOnly}
 use Rattle.tree_worlds.specs.declared.reason.Reason.{Reason}
 use Rattle.tree_worlds.specs.declared.reason.Reason.TheVariants.{Change as for_change}
 use Rattle.tree_worlds.specs.World.{WorldData, acted}
-use Rattle.tree_worlds.specs.Program.{Program, Done, Refuse, Look, Act, ◌>>=◌, Run, run, run_act, go_on}
+use Rattle.tree_worlds.specs.Program.{Program, Refuse, ◌>>=◌, Run, run, run_act, go_on}
 use Rattle.sh_places.specs.declared.spot.Site.{Site}
 use Rattle.sh_places.specs.declared.spot.Site.TheVariants.{Tree, Readable, Input}
 use Rattle.sh_places.specs.Parts.{attempt, choose, act_in}

@@ -1,15 +1,14 @@
 -- A walk leads where it led, after names were added.
-use Rattle.std.proofs.Common.{ℕ, zero, suc, ◌≡◌, Bool, true, false, not, cond, ◌&&◌, List, [], ◌∷◌, ◌++◌, Option, Some, None, Result, Ok, Err, refl, sym, ap, ◌∙◌}
+use Rattle.std.proofs.Common.{ℕ, zero, suc, ◌≡◌, Bool, true, false, cond, List, [], ◌∷◌, ◌++◌, Option, Some, None, Result, Ok, Err, refl, sym, ap, ◌∙◌}
 use Rattle.std.specs.Prelude.{codes}
 use Rattle.std.proofs.lemmas.Bool.{true≢false}
 use Rattle.br_path.specs.Path.{Names, parent_of}
 use Rattle.br_path.specs.Text.{is_text}
-use Rattle.tree_ops.specs.declared.change.ChangeFault.{ChangeFault}
-use Rattle.tree_ops.specs.declared.change.ChangeFault.TheVariants.{Absent, NotDir, Outside, Loop, TooLong}
+use Rattle.tree_ops.specs.declared.change.ChangeFault.TheVariants.{Outside, Loop, TooLong}
 use Rattle.tree_ops.specs.declared.entry.Node.{Node}
 use Rattle.tree_ops.specs.declared.entry.Node.TheVariants.{Dir, Link, File}
 use Rattle.tree_ops.specs.Tree.{Tree, node_at, is_dir}
-use Rattle.tree_ops.specs.Walk.{Onward, walk_on, walk_through, resolved, past_name, past_parent, through, only_last, is_name_too_long, components, begins_at_root, steps_of}
+use Rattle.tree_ops.specs.Walk.{Onward, walk_on, walk_through, resolved, past_name, past_parent, through, is_name_too_long, components, begins_at_root, steps_of}
 use Rattle.file_laws.proofs.Stays.{KeepsNodes}
 use Rattle.file_laws.proofs.Through.{same_Ok}
 

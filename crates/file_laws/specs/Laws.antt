@@ -1,5 +1,5 @@
 -- Laws of the commands on files, and of sed.
-use Rattle.std.specs.Prelude.{◌≡◌, ℕ, Bool, true, false, List, [], ◌∷◌, ◌++◌, Option, Some, None, Result, Ok}
+use Rattle.std.specs.Prelude.{◌≡◌, ℕ, Bool, true, false, List, [], ◌∷◌, ◌++◌, Option, Some, None, Ok}
 use Rattle.br_path.specs.Path.{Names, rooted_text}
 use Rattle.br_path.specs.Files.{FileMap}
 use Rattle.br_path.specs.declared.area.Area.{Area}

@@ -1,5 +1,5 @@
 -- What happens to the trees of a world, in words of single places.
-use Rattle.std.specs.Prelude.{◌≡◌, ◌≢◌, ℕ, true, false, List, Option, Some, None, is_some, Result, Ok}
+use Rattle.std.specs.Prelude.{◌≡◌, ◌≢◌, ℕ, true, false, List, Option, Some, None, is_some, Ok}
 use Rattle.std.specs.FinMap as fin
 use Rattle.br_path.specs.Path.{Names}
 use Rattle.br_path.specs.declared.area.Area.{Area}

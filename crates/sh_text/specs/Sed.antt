@@ -12,6 +12,7 @@ use Rattle.opt_table.specs.Table.{rows_of}
 use Rattle.tree_ops.specs.declared.change.ChangeFault.TheVariants.{Absent, IsDir}
 use Rattle.tree_ops.specs.Change.{MakeFile, Remove}
 use Rattle.tree_worlds.specs.Program.{Program, Done, Refuse, Look, ◌>>=◌}
+use Rattle.tree_worlds.specs.declared.operand.Operand.{Operand}
 use Rattle.tree_worlds.specs.declared.reason.Reason.{Reason}
 use Rattle.tree_worlds.specs.declared.reason.Reason.TheVariants.{Syntax, Operand as no_operand, Option as no_option, Change as for_change}
 use Rattle.sh_places.specs.declared.spot.Spot.{Spot}
@@ -94,14 +95,16 @@ abbrev pub replace : Spot → ℕ → List ℕ → Program (Unit {0})
 replace place mode text = act_in place.site (Remove place.path) >>= λ _. act_in place.site (MakeFile place.path mode text)
 
 -- a file read following, and a new one with its mode at the name itself, unfollowed
-abbrev pub edit_file : FileMap → Script → List ℕ → Program (Unit {0})
-edit_file files script word =
-    read files word >>= λ operand.
+abbrev pub edit_operand : FileMap → Script → Operand → Program (Unit {0})
+edit_operand files script operand =
     resolve operand true >>= λ source.
     Look >>= λ world.
     edited_at script (bytes_at world files source) (kind_at world files source) >>= λ text.
     resolve operand false >>= λ place.
     replace place (mode_at world source) text
+
+abbrev pub edit_file : FileMap → Script → List ℕ → Program (Unit {0})
+edit_file files script word = read files word >>= edit_operand files script
 
 -- 4. sed: with `i` file by file in place, and without a target; else the edited texts are the output.
 

@@ -3,6 +3,7 @@ ghost use Rattle.std.specs.Prelude.{◌≡◌, ◌++◌, ◌<◌, ◌≤◌, ◌
 ghost use Rattle.tree_worlds.specs.World.{WorldData, world_data};
 ghost use Rattle.tree_worlds.specs.Program.{run, Ran};
 ghost use Rattle.tree_worlds.specs.HeldWorld.{IsHeldWorld};
+ghost use Rattle.sh_places.specs.Finding.{HasWalk};
 ghost use Rattle.sh_places.specs.Looks as looks;
 ghost use Rattle.sh_places.specs.Parts.{each, attempt};
 ghost use Rattle.sh_text.specs.Sed as sed;
@@ -15,7 +16,7 @@ use sh_places::{Kind, Spot, act_in, bytes_at, find, kind_at, mode_at, read, reso
 use sh_words::Redirect;
 use std::alloc::Global;
 use tree_ops::{ChangeFault, TreeOps};
-use tree_worlds::{CommandError, Reason, Step, World, error_of};
+use tree_worlds::{CommandError, Operand, Reason, Step, World, error_of};
 
 /// Edits files line by line by a script: in place with `i`, else to the output.
 pub(crate) fn sed<T: TreeOps>(
@@ -288,10 +289,26 @@ fn edit_file<T: TreeOps>(
     ensures held { IsHeldWorld T.tree T.sealed world.new }
 {
     let operand = read(alloc, world, files, word)?;
-    let source = resolve(alloc, world, &operand, true)?;
+    edit_operand(alloc, world, files, script, &operand)
+}
+
+/// The same of what was read of a word.
+fn edit_operand<T: TreeOps>(
+    alloc: Global,
+    world: &mut World<T>,
+    files: &Files,
+    script: &Script,
+    operand: &Operand,
+) -> Result<(), CommandError>
+    requires walk { HasWalk operand.now }
+    requires held { IsHeldWorld T.tree T.sealed world.old }
+    ensures ran { Ran (run (sed.edit_operand files.now script.now operand.now) (world_data T.tree world.old)) result (world_data T.tree world.new) }
+    ensures held { IsHeldWorld T.tree T.sealed world.new }
+{
+    let source = resolve(alloc, world, operand, true)?;
     let text = edited_at(alloc, world, files, script, &source)?;
     let mode = mode_at(world, &source);
-    let place = resolve(alloc, world, &operand, false)?;
+    let place = resolve(alloc, world, operand, false)?;
     replace(alloc, world, &place, mode, text.as_slice())
 }
 

@@ -168,11 +168,7 @@ impl<T: TreeOps> Tasks<T> {
     }
 
     /// The same after a line whose command is one on texts.
-    fn after_texts(
-        self,
-        files: &Files,
-        line: &Line,
-    ) -> Result<(Tasks<T>, Option<Reason>), Stopped>
+    fn after_texts(self, files: &Files, line: &Line) -> Result<(Tasks<T>, Option<Reason>), Stopped>
         requires { length line.now.words < 2 ^ 32 }
     {
         let Tasks {

@@ -20,7 +20,7 @@ pub loop-word-preserved : goal.loop-word-preserved
 loop-word-preserved g c =
     let world = world_data g.T.TreeOps.tree c.args.world.now in
     let whole = run (edited_files c.args.files.now c.args.script.now [] c.args.words.now) world in
-    let text = c.in_ok-append.ensures ∙ ap (λ more. c.loop-word.output ++ more) c.as_slice-in-loop-word.ensures in
+    let text = ◌∙◌ {b = c.loop-word.output ++ c.as_slice-in-loop-word.result.now} c.in_ok-append.ensures (ap (λ more. c.loop-word.output ++ more) c.as_slice-in-loop-word.ensures) in
     subst (λ (output : List ℕ). run (edited_files c.args.files.now c.args.script.now output (drop (c.loop-word.word-index + 1) c.args.words.now)) world ≡ whole) (sym text) (
     edited_next c.args.files.now c.args.script.now c.loop-word.output c.in_ok-text.text c.args.words.now c.loop-word.word-index c.word-item.result c.as_slice.result.now world whole c.loop-word-test.true c.word-item.is c.as_slice.ensures
     c.loop-word.invariant c.in_ok-text.ensures
