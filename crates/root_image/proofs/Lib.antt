@@ -1,0 +1,11 @@
+pub mod Capped
+pub mod Digits
+pub mod Loop
+pub mod Pieces
+pub mod Readable
+pub mod Sized
+pub mod Small
+pub mod Spelled
+pub mod Told
+pub mod Whole
+pub mod Writing
