@@ -1,2 +1,4 @@
+pub mod Lines
 pub mod Faults
 pub mod Plans
+pub mod Builds

@@ -1,137 +1,227 @@
-//! The words of the faults of plans.
-ghost use Rattle.std.specs.Prelude.{◌≡◌, ◌++◌, ◌∷◌, IfOk, OnOk};
+//! The lines of the faults of an input.
+ghost use Rattle.std.specs.Prelude.{◌≡◌, ◌≢◌, ◌<◌, ◌++◌, ◌∷◌, IfOk, OnOk, length};
 ghost use Rattle.br_path.specs.Path.{path_text};
+ghost use Rattle.feed_io.specs.declared.read.ReadFault.TheVariants.{Memory as unread_memory};
+ghost use Rattle.kc_equations.specs.declared.fault.SolveFault.TheVariants.{Memory as unsolved_memory};
+ghost use Rattle.mk_expand.specs.declared.fault.ExpandFault.TheVariants.{Memory as no_value_memory};
 ghost use Rattle.build_report.specs.Faults as text;
 
-use crate::paths::push_path;
+use crate::fault::InputFault;
+use crate::lines::{push_name, push_number, push_path};
 use br_path::{Bytes, Memory, Names, Path};
+use feed_io::ReadFault;
+use kc_equations::SolveFault;
+use kc_syntax::{KcFault, KcKind};
 use mk_expand::ExpandFault;
 use mk_syntax::{MkFault, MkKind};
 use recipe_set::PlanFault;
 use std::alloc::{AllocError, Global};
 
-/// The words of a fault of a plan, by the names of the tasks, which stand for the number of a task.
-pub fn plan_fault_words(alloc: Global, names: &Names, fault: &PlanFault) -> Result<Bytes, Memory>
-    ensures { IfOk result (λ b. b ≡ text.plan_fault_words names.now fault.now) }
+/// The line of a fault.
+///
+/// ```text
+/// fault config package/zlib/Config.in 3 bad-line
+/// fault cycle zlib:make
+/// ```
+///
+/// The names are those of the tasks, by their numbers. They are looked at only if tasks need one another in a circle.
+pub fn fault_text(alloc: Global, fault: &InputFault, names: &Names) -> Result<Bytes, Memory>
+    requires { text.HasLine names.now fault.now }
+    ensures { IfOk result (λ b. b ≡ text.fault_text names.now fault.now) }
+{
+    let mut items = Vec::from_slice(alloc, b"fault ")?;
+    push_fault(alloc, &mut items, fault, names)?;
+    items.push(b'\n')?;
+    Ok(Bytes { items })
+}
+
+/// Puts the words of a fault after a text.
+fn push_fault(
+    alloc: Global,
+    items: &mut Vec<u8>,
+    fault: &InputFault,
+    names: &Names,
+) -> Result<(), AllocError>
+    requires { text.HasLine names.now fault.now }
+    ensures { OnOk result (items.new.items ≡ items.old.items ++ text.fault_words names.now fault.now) }
 {
     match fault {
-        PlanFault::WrongName(at) => path_words(alloc, b"wrong-name ", at),
-        PlanFault::Recipe(at, fault) => recipe_words(alloc, at, fault),
+        InputFault::Read(fault) => push_read(alloc, items, fault),
+        InputFault::Menu(fault) => push_menu(alloc, items, fault),
+        InputFault::Wish(line) => push_number(alloc, items, b"wish ", *line),
+        InputFault::Solve(fault) => push_solve(items, fault),
+        InputFault::Plan(fault) => push_plan(alloc, items, fault, names),
+        InputFault::NoPackage(name) => push_name(items, b"no-package ", name.as_slice()),
+    }
+}
+
+/// Puts what is wrong with the files that were read.
+fn push_read(alloc: Global, items: &mut Vec<u8>, fault: &ReadFault) -> Result<(), AllocError>
+    requires { fault.now ≢ unread_memory }
+    ensures { OnOk result (items.new.items ≡ items.old.items ++ text.read_words fault.now) }
+{
+    match fault {
+        ReadFault::Feed => items.extend_from_slice(b"feed"),
+        ReadFault::TooManyFiles => items.extend_from_slice(b"too-many-files"),
+        ReadFault::TooLarge => items.extend_from_slice(b"too-large"),
+        ReadFault::BadPath(number) => push_number(alloc, items, b"path ", *number),
+        ReadFault::Twice(at) => push_at(items, b"twice ", at),
+        ReadFault::Memory => unreachable!(),
+    }
+}
+
+/// Puts what is wrong with a file that declares the configuration.
+fn push_menu(alloc: Global, items: &mut Vec<u8>, fault: &KcFault) -> Result<(), AllocError>
+    ensures { OnOk result (items.new.items ≡ items.old.items ++ text.menu_words fault.now) }
+{
+    push_at(items, b"config ", &fault.file)?;
+    push_number(alloc, items, b" ", fault.line)?;
+    push_name(items, b" ", menu_kind(fault.kind))
+}
+
+fn menu_kind(kind: KcKind) -> &'static [u8]
+    ensures { result.now ≡ text.menu_kind kind }
+{
+    match kind {
+        KcKind::NoFile => b"no-file",
+        KcKind::BadLine => b"bad-line",
+        KcKind::BadString => b"bad-string",
+        KcKind::OpenBlock => b"open-block",
+        KcKind::Loop => b"loop",
+        KcKind::TwoTypes => b"two-types",
+        KcKind::NoType => b"no-type",
+        KcKind::TooMany => b"too-many",
+    }
+}
+
+/// Puts why the configuration isn't solved, and the symbol.
+fn push_solve(items: &mut Vec<u8>, fault: &SolveFault) -> Result<(), AllocError>
+    requires { fault.now ≢ unsolved_memory }
+    ensures { OnOk result (items.new.items ≡ items.old.items ++ text.solve_words fault.now) }
+{
+    match fault {
+        SolveFault::SelectOfChoice(symbol) => {
+            push_name(items, b"select-of-choice ", symbol.as_slice())
+        }
+        SolveFault::SelectOfValue(symbol) => {
+            push_name(items, b"select-of-value ", symbol.as_slice())
+        }
+        SolveFault::Cycle(symbol) => push_name(items, b"config-cycle ", symbol.as_slice()),
+        SolveFault::BadNumber(symbol) => push_name(items, b"bad-number ", symbol.as_slice()),
+        SolveFault::Memory => unreachable!(),
+    }
+}
+
+/// Puts why there is no plan.
+fn push_plan(
+    alloc: Global,
+    items: &mut Vec<u8>,
+    fault: &PlanFault,
+    names: &Names,
+) -> Result<(), AllocError>
+    requires { text.HasPlanLine names.now fault.now }
+    ensures { OnOk result (items.new.items ≡ items.old.items ++ text.plan_words names.now fault.now) }
+{
+    match fault {
+        PlanFault::WrongName(at) => push_at(items, b"wrong-name ", at),
+        PlanFault::PatchFile(at) => push_at(items, b"patch-file ", at),
+        PlanFault::Recipe(at, fault) => push_recipe(alloc, items, at, fault),
         PlanFault::Expand {
             package,
             variable,
             fault,
-        } => expand_words(alloc, package, variable, fault),
-        PlanFault::PatchFile(at) => path_words(alloc, b"patch-file ", at),
-        PlanFault::NoRecipe(name) => name_words(alloc, b"no-recipe ", name.as_slice()),
+        } => push_expand(items, package, variable, fault),
+        PlanFault::NoRecipe(name) => push_name(items, b"no-recipe ", name.as_slice()),
         PlanFault::UnknownDependency(owner, name) => {
-            pair_words(alloc, b"unknown-dependency ", owner, name)
+            push_pair(items, b"unknown-dependency ", owner, name)
         }
-        PlanFault::NotSelected(owner, name) => pair_words(alloc, b"not-selected ", owner, name),
-        PlanFault::TooManyPackages => Ok(Bytes::from_slice(alloc, b"too-many-packages")?),
-        PlanFault::Cycle(task) => name_words(alloc, b"cycle ", name_at(names, *task)),
-        PlanFault::Memory => Ok(Bytes::from_slice(alloc, b"")?),
+        PlanFault::NotSelected(owner, name) => push_pair(items, b"not-selected ", owner, name),
+        PlanFault::TooManyPackages => items.extend_from_slice(b"too-many-packages"),
+        PlanFault::Cycle(task) => push_name(items, b"cycle ", name_at(names, *task)),
+        PlanFault::Memory => unreachable!(),
     }
 }
 
-// The name of a number, which is empty where there is none.
-fn name_at(names: &Names, number: u32) -> &[u8]
-    ensures { result.now ≡ text.name_at names.now number }
+/// The name of a task.
+fn name_at(names: &Names, task: u32) -> &[u8]
+    requires { task < length names.now }
+    ensures { result.now ≡ text.name_at names.now task }
 {
-    match names.items.get(number as usize) {
-        Some(name) => name.as_slice(),
-        None => b"",
-    }
+    names.items[task as usize].as_slice()
 }
 
-// The words of a fault, with a path behind them.
-fn path_words(alloc: Global, fault: &[u8], at: &Path) -> Result<Bytes, Memory>
-    ensures { IfOk result (λ b. b ≡ fault.now ++ path_text at.now) }
+/// Puts what is wrong with a recipe, with its path and the line.
+fn push_recipe(
+    alloc: Global,
+    items: &mut Vec<u8>,
+    at: &Path,
+    fault: &MkFault,
+) -> Result<(), AllocError>
+    ensures { OnOk result (items.new.items ≡ items.old.items ++ text.recipe_words at.now fault.now) }
 {
-    let mut words = Vec::from_slice(alloc, fault)?;
-    push_path(&mut words, at)?;
-    Ok(Bytes { items: words })
+    push_at(items, b"recipe ", at)?;
+    push_number(alloc, items, b" ", fault.line)?;
+    items.push(b' ')?;
+    push_recipe_kind(items, &fault.kind)
 }
 
-// The words of a fault, with a name behind them.
-fn name_words(alloc: Global, fault: &[u8], name: &[u8]) -> Result<Bytes, Memory>
-    ensures { IfOk result (λ b. b ≡ fault.now ++ name.now) }
-{
-    let mut words = Vec::from_slice(alloc, fault)?;
-    words.extend_from_slice(name)?;
-    Ok(Bytes { items: words })
-}
-
-// The words of a fault, with a package and what it names behind them.
-fn pair_words(alloc: Global, fault: &[u8], owner: &Bytes, name: &Bytes) -> Result<Bytes, Memory>
-    ensures { IfOk result (λ b. b ≡ fault.now ++ (owner.now ++ 32 ∷ name.now)) }
-{
-    let mut words = Vec::from_slice(alloc, fault)?;
-    words.extend_from_slice(owner.as_slice())?;
-    words.push(b' ')?;
-    words.extend_from_slice(name.as_slice())?;
-    Ok(Bytes { items: words })
-}
-
-// A recipe that isn't read, with its path, the line and what is wrong with it.
-fn recipe_words(alloc: Global, at: &Path, fault: &MkFault) -> Result<Bytes, Memory>
-    ensures { IfOk result (λ b. b ≡ text.recipe_words at.now fault.now) }
-{
-    let mut words = Vec::from_slice(alloc, b"recipe ")?;
-    push_path(&mut words, at)?;
-    let line = fault.line;
-    let number = format!(in alloc; " {line} ")?;
-    words.extend_from_slice(number.as_bytes())?;
-    push_kind(&mut words, &fault.kind)?;
-    Ok(Bytes { items: words })
-}
-
-fn push_kind(words: &mut Vec<u8>, kind: &MkKind) -> Result<(), AllocError>
-    ensures { OnOk result (words.new.items ≡ words.old.items ++ text.kind_words kind.now) }
+fn push_recipe_kind(items: &mut Vec<u8>, kind: &MkKind) -> Result<(), AllocError>
+    ensures { OnOk result (items.new.items ≡ items.old.items ++ text.recipe_kind kind.now) }
 {
     match kind {
-        MkKind::BadLine => words.extend_from_slice(b"bad-line"),
-        MkKind::OpenDefine => words.extend_from_slice(b"open-define"),
-        MkKind::OpenIf => words.extend_from_slice(b"open-if"),
-        MkKind::StrayElse => words.extend_from_slice(b"stray-else"),
-        MkKind::Unsupported(word) => push_name(words, b"unsupported ", word),
+        MkKind::BadLine => items.extend_from_slice(b"bad-line"),
+        MkKind::OpenDefine => items.extend_from_slice(b"open-define"),
+        MkKind::OpenIf => items.extend_from_slice(b"open-if"),
+        MkKind::StrayElse => items.extend_from_slice(b"stray-else"),
+        MkKind::Unsupported(word) => push_name(items, b"unsupported ", word.as_slice()),
     }
 }
 
-// A text that has no value, with its package, its variable and what is wrong with it.
-fn expand_words(
-    alloc: Global,
+/// Puts why a text has no value, with its package and its variable.
+fn push_expand(
+    items: &mut Vec<u8>,
     owner: &Bytes,
     variable: &Bytes,
     fault: &ExpandFault,
-) -> Result<Bytes, Memory>
-    ensures { IfOk result (λ b. b ≡ text.expand_words owner.now variable.now fault.now) }
+) -> Result<(), AllocError>
+    requires { fault.now ≢ no_value_memory }
+    ensures { OnOk result (items.new.items ≡ items.old.items ++ text.expand_words owner.now variable.now fault.now) }
 {
-    let mut words = Vec::from_slice(alloc, b"expand ")?;
-    words.extend_from_slice(owner.as_slice())?;
-    words.push(b' ')?;
-    words.extend_from_slice(variable.as_slice())?;
-    words.push(b' ')?;
-    push_cause(&mut words, fault)?;
-    Ok(Bytes { items: words })
+    push_pair(items, b"expand ", owner, variable)?;
+    items.push(b' ')?;
+    push_expand_kind(items, fault)
 }
 
-fn push_cause(words: &mut Vec<u8>, fault: &ExpandFault) -> Result<(), AllocError>
-    ensures { OnOk result (words.new.items ≡ words.old.items ++ text.cause_words fault.now) }
+fn push_expand_kind(items: &mut Vec<u8>, fault: &ExpandFault) -> Result<(), AllocError>
+    requires { fault.now ≢ no_value_memory }
+    ensures { OnOk result (items.new.items ≡ items.old.items ++ text.expand_kind fault.now) }
 {
     match fault {
-        ExpandFault::SelfReference(name) => push_name(words, b"self-reference ", name),
-        ExpandFault::BadCall => words.extend_from_slice(b"bad-call"),
-        ExpandFault::Unsupported(name) => push_name(words, b"unsupported ", name),
-        ExpandFault::TooCostly => words.extend_from_slice(b"too-costly"),
-        ExpandFault::Memory => Ok(()),
+        ExpandFault::SelfReference(name) => push_name(items, b"self-reference ", name.as_slice()),
+        ExpandFault::BadCall => items.extend_from_slice(b"bad-call"),
+        ExpandFault::Unsupported(name) => push_name(items, b"unsupported ", name.as_slice()),
+        ExpandFault::TooCostly => items.extend_from_slice(b"too-costly"),
+        ExpandFault::Memory => unreachable!(),
     }
 }
 
-// Puts what is wrong behind the words, and a name behind that.
-fn push_name(words: &mut Vec<u8>, kind: &[u8], name: &Bytes) -> Result<(), AllocError>
-    ensures { OnOk result (words.new.items ≡ words.old.items ++ (kind.now ++ name.now)) }
+/// Puts a word and a path.
+fn push_at(items: &mut Vec<u8>, word: &[u8], at: &Path) -> Result<(), AllocError>
+    ensures { OnOk result (items.new.items ≡ items.old.items ++ (word.now ++ path_text at.now)) }
 {
-    words.extend_from_slice(kind)?;
-    words.extend_from_slice(name.as_slice())
+    items.extend_from_slice(word)?;
+    push_path(items, at)
+}
+
+/// Puts a word, a package, and a name that belongs to it.
+fn push_pair(
+    items: &mut Vec<u8>,
+    word: &[u8],
+    owner: &Bytes,
+    name: &Bytes,
+) -> Result<(), AllocError>
+    ensures { OnOk result (items.new.items ≡ items.old.items ++ (word.now ++ (owner.now ++ 32 ∷ name.now))) }
+{
+    push_name(items, word, owner.as_slice())?;
+    push_name(items, b" ", name.as_slice())
 }

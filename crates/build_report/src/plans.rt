@@ -41,14 +41,17 @@ fn push_needs(items: &mut Vec<u8>, plan: &Plan, task: u32) -> Result<(), AllocEr
     Ok(())
 }
 
-// Puts a task behind a text.
-fn push_task(items: &mut Vec<u8>, plan: &Plan, task: u32) -> Result<(), AllocError>
-    requires { task < length plan.now.rows }
+/// Puts a task after a text, and nothing where the plan has no such task.
+pub(crate) fn push_task(items: &mut Vec<u8>, plan: &Plan, task: u32) -> Result<(), AllocError>
     ensures { OnOk result (items.new.items ≡ items.old.items ++ text.task_text plan.now task) }
 {
-    let row = plan.row(task);
-    items.extend_from_slice(row.package.as_slice())?;
-    items.extend_from_slice(part_text(row.part))
+    match plan.rows().get(task as usize) {
+        Some(row) => {
+            items.extend_from_slice(row.package.as_slice())?;
+            items.extend_from_slice(part_text(row.part))
+        }
+        None => Ok(()),
+    }
 }
 
 fn part_text(part: Part) -> &'static [u8]

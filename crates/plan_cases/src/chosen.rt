@@ -53,7 +53,7 @@ fn answer_read(
     let files = input.files()?;
     match read_recipes(alloc, files.get(), input.values()) {
         Ok(recipes) => answer(page, &recipes, question, name),
-        Err(fault) => print_unnamed(alloc, page, &fault),
+        Err(fault) => print_unnamed(alloc, page, fault),
     }
 }
 
@@ -118,7 +118,7 @@ pub(crate) fn answer_selection(
     let files = input.files()?;
     match read_recipes(alloc, files.get(), input.values()) {
         Ok(recipes) => select(alloc, page, &files, input, &recipes, line),
-        Err(fault) => print_unnamed(alloc, page, &fault),
+        Err(fault) => print_unnamed(alloc, page, fault),
     }
 }
 
@@ -134,7 +134,7 @@ fn select(
 {
     match select_packages(alloc, files.get(), input.values(), recipes) {
         Ok(selection) => print_selection(page, &selection, line),
-        Err(fault) => print_unnamed(alloc, page, &fault),
+        Err(fault) => print_unnamed(alloc, page, fault),
     }
 }
 

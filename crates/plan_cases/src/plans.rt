@@ -1,14 +1,16 @@
 //! Answers of the plan of a case's input.
-ghost use Rattle.std.specs.Prelude.{All};
+ghost use Rattle.std.specs.Prelude.{◌≡◌, true, All};
+ghost use Rattle.build_report.specs.Faults.{HasPlanLine};
 ghost use Rattle.plan_rows.specs.declared.rows.Part.TheVariants.{Prep};
 ghost use Rattle.plan_rows.specs.Plan.{IsTask};
 
 use crate::input::Input;
 use crate::rows::print_row;
 use br_path::{Names, Numbers};
-use build_report::{names_text, plan_fault_words, plan_text};
+use build_report::{InputFault, fault_text, names_text, plan_text};
 use case_text::{Page, SmallFiles, Stopped, found, word};
 use kc_values::Values;
+use mk_expand::ExpandFault;
 use plan_rows::Plan;
 use recipe_plan::{depends, plan, rdepends, recursive_depends, task_names};
 use recipe_set::PlanFault;
@@ -64,7 +66,7 @@ fn answer_planned(
 ) -> Result<(), Stopped> {
     match plan(alloc, files.get(), values) {
         Ok(plan) => answer(alloc, page, &plan, question, name),
-        Err(fault) => print_named(alloc, page, files, values, &fault),
+        Err(fault) => print_named(alloc, page, files, values, fault),
     }
 }
 
@@ -77,7 +79,7 @@ fn answer_names(
 ) -> Result<(), Stopped> {
     match task_names(alloc, files.get(), values) {
         Ok(names) => print_names(page, &names),
-        Err(fault) => print_unnamed(alloc, page, &fault),
+        Err(fault) => print_unnamed(alloc, page, fault),
     }
 }
 
@@ -87,13 +89,13 @@ fn print_named(
     page: &mut Page,
     files: &SmallFiles,
     values: &Values,
-    fault: &PlanFault,
+    fault: PlanFault,
 ) -> Result<(), Stopped> {
-    let names = names_for(alloc, files, values, fault)?;
+    let names = names_for(alloc, files, values, &fault)?;
     print_fault(alloc, page, &names, fault)
 }
 
-/// The names that the words of a fault take: those of the tasks for a cycle, and none for other faults.
+/// The names that the line of a fault takes: those of the tasks for a cycle, and none for other faults.
 fn names_for(
     alloc: Global,
     files: &SmallFiles,
@@ -119,23 +121,35 @@ fn no_names(alloc: Global) -> Names {
 pub(crate) fn print_unnamed(
     alloc: Global,
     page: &mut Page,
-    fault: &PlanFault,
+    fault: PlanFault,
 ) -> Result<(), Stopped> {
     print_fault(alloc, page, &no_names(alloc), fault)
 }
 
-/// Prints a fault by its words. Out of memory is none, and stops the program.
+/// Prints the line of a fault. Out of memory has none, and stops the program.
 fn print_fault(
     alloc: Global,
     page: &mut Page,
     names: &Names,
-    fault: &PlanFault,
+    fault: PlanFault,
 ) -> Result<(), Stopped> {
-    if let PlanFault::Memory = fault {
+    if !has_line(&fault, names) {
         return Err(Stopped);
     }
-    let words = plan_fault_words(alloc, names, fault)?;
-    page.line(b"    fault ", words.as_slice())
+    let line = fault_text(alloc, &InputFault::Plan(fault), names)?;
+    page.lines(b"    ", line.as_slice())
+}
+
+/// Whether a fault has a line: it isn't out of memory, and a task on a cycle has a name.
+fn has_line(fault: &PlanFault, names: &Names) -> bool
+    ensures { result ≡ true → HasPlanLine names.now fault.now }
+{
+    match fault {
+        PlanFault::Expand { fault, .. } => !matches!(fault, ExpandFault::Memory),
+        PlanFault::Cycle(task) => (*task as usize) < names.items.len(),
+        PlanFault::Memory => false,
+        _ => true,
+    }
 }
 
 fn print_names(page: &mut Page, names: &Names) -> Result<(), Stopped> {

@@ -1,4 +1,4 @@
--- No fault of a text is want of memory.
+-- The faults of texts and of a selection, and that none is want of memory.
 use Rattle.std.proofs.Common.{ℕ, ◌≡◌, ◌≢◌, ◌+◌, Bool, true, false, not, ◌&&◌, cond, List, [], ◌∷◌, ◌++◌, length, Option, Some, None, Result, Ok, Err, refl, ap, subst}
 use Rattle.std.specs.Prelude.{nat_le, codes}
 use Rattle.br_path.specs.Files.{FileMap}
@@ -34,15 +34,20 @@ use Rattle.recipe_plan.specs.Lines.{command_lines}
 use Rattle.recipe_plan.specs.Steps.{Stepped, steps_of, default_of, has_commands, copies, commands_of, hooks_before, hooks_behind, setting_of, is_set, setting, has_step_by, has_step, commands, step_row, put_row, put_step, task_steps}
 use Rattle.recipe_plan.specs.Rows.{row_of, task_row, put_rows, all_rows}
 
--- a fault, where an answer is one, doesn't hold want of memory
+-- a fault of a text, which isn't want of memory
+abbrev pub IsOfText : PlanFault → Type 0
+IsOfText (Expand owner variable cause) = cause ≢ no_value_memory
+IsOfText _ = ⊥
+
+-- a fault, where an answer is one, is of a text
 abbrev Held : {A : Type 0} → Result A PlanFault → Type 0
-Held answer = (fault : PlanFault) → answer ≡ Err fault → HoldsNoMemory fault
+Held answer = (fault : PlanFault) → answer ≡ Err fault → IsOfText fault
 
 ok_held : {A : Type 0} (x : A) → Held (Ok x)
 ok_held x fault is = absurd cc
 
-err_held : {A : Type 0} (fault : PlanFault) → HoldsNoMemory fault → Held {A = A} (Err fault)
-err_held fault held other is = let same : fault ≡ other = cc in subst HoldsNoMemory same held
+err_held : {A : Type 0} (fault : PlanFault) → IsOfText fault → Held {A = A} (Err fault)
+err_held fault held other is = let same : fault ≡ other = cc in subst IsOfText same held
 
 cond_held : {A : Type 0} (b : Bool) (one other : Result A PlanFault) → Held one → Held other → Held (cond b one other)
 cond_held true one other p q = p
@@ -143,8 +148,23 @@ put_rows_held vars needs rows item =
     (λ make. ok_held (rows ++ prep ∷ make ∷ [])))
 
 -- the fault of the rows of the tasks
+pub rows_of_text : (vars : Table) (needs : Needs) (chosen : List Listed) (fault : PlanFault) → all_rows vars needs chosen ≡ Err fault → IsOfText fault
+rows_of_text vars needs chosen = turn_held (put_rows vars needs) (put_rows_held vars needs) [] chosen
+
+text_no_memory : (fault : PlanFault) → IsOfText fault → HoldsNoMemory fault
+text_no_memory (WrongName path) is = tt
+text_no_memory (Recipe path cause) is = tt
+text_no_memory (Expand owner variable cause) is = is
+text_no_memory (PatchFile path) is = tt
+text_no_memory (NoRecipe name) is = tt
+text_no_memory (UnknownDependency owner name) is = tt
+text_no_memory (NotSelected owner name) is = tt
+text_no_memory TooManyPackages is = tt
+text_no_memory (Cycle task) is = tt
+text_no_memory Memory is = tt
+
 pub rows_held : (vars : Table) (needs : Needs) (chosen : List Listed) (fault : PlanFault) → all_rows vars needs chosen ≡ Err fault → HoldsNoMemory fault
-rows_held vars needs chosen = turn_held (put_rows vars needs) (put_rows_held vars needs) [] chosen
+rows_held vars needs chosen fault is = text_no_memory fault (rows_of_text vars needs chosen fault is)
 
 -- ---- the fault of a selection
 

@@ -1,3 +1,4 @@
+pub mod CycleLaws
 pub mod HeldLaws
 pub mod NeedLaws
 pub mod OneNeeds

@@ -23,6 +23,6 @@ mod rows;
 mod steps;
 mod texts;
 
-pub use laws::one_plan;
+pub use laws::{cycles_have_names, one_plan};
 pub use packages::{depends, rdepends, recursive_depends};
 pub use planning::{plan, task_names};

@@ -7,8 +7,10 @@
 //! trees are kept.
 #![tactic(auto)]
 
+mod overwrites;
 mod shelf;
 mod shelves;
 
+pub use overwrites::{Overwrite, Overwrites};
 pub use shelf::{Shelf, Stamp, Stamps, Written};
 pub use shelves::Shelves;

@@ -1,0 +1,2 @@
+mod OwnPrep
+pub mod OneMore
