@@ -1,0 +1,12 @@
+pub mod Among
+pub mod Empty
+pub mod InTurn
+pub mod Turns
+pub mod Skips
+pub mod Roots
+pub mod Origins
+pub mod Filled
+pub mod Wrote
+pub mod Growing
+pub mod Grounds
+pub mod Counted
