@@ -1,0 +1,5 @@
+pub mod Found
+pub mod Overwrites
+pub mod Roots
+pub mod Owners
+pub mod Firsts
