@@ -1,7 +1,11 @@
 //! Whole runs over feeds and sinks in memory.
+ghost use Rattle.std.specs.Prelude.{◌≡◌, true};
+ghost use Rattle.br_run.specs.Answer.{has_one_worker};
+
 use crate::input::feed_files;
 use br_path::{Names, Numbers};
-use br_run::{Status, run};
+use br_run::{Status, has_one_worker, run, run_still};
+use br_words::Words;
 use case_text::{FileTexts, Page, Stopped, number, numbers, word};
 use feed_io::{MemoryFeed, MemorySink};
 use std::alloc::Global;
@@ -20,6 +24,14 @@ pub(crate) struct Ends {
     feed: Vec<u32>,
     out: Taking,
     image: Taking,
+}
+
+/// What a run left and answered.
+#[derive(Drop)]
+struct Told {
+    out: MemorySink,
+    image: MemorySink,
+    status: Status,
 }
 
 impl Taking {
@@ -78,7 +90,8 @@ impl Ends {
         Ok(())
     }
 
-    /// Runs the builder, and prints the report, the image and the status.
+    /// Runs the builder, and prints the report, the image and the status. Where the words are a command for one worker, it is
+    /// run once more by the call for these, and has to answer the same.
     pub(crate) fn run(
         &self,
         alloc: Global,
@@ -86,21 +99,40 @@ impl Ends {
         words: &Names,
         files: &FileTexts,
     ) -> Result<(), Stopped> {
-        let mut feed = self.feed(alloc, files)?;
-        self.run_over(alloc, page, words, &mut feed)
+        let told = self.run_words(alloc, words, &mut self.feed(alloc, files)?)?;
+        if let Ok(command) = Words::read(&words.items) {
+            if has_one_worker(&command) {
+                let again = self.run_command(alloc, &command, &mut self.feed(alloc, files)?)?;
+                again.check(&told)?;
+            }
+        }
+        told.print(page)
     }
 
-    fn run_over(
+    fn run_words(
         &self,
         alloc: Global,
-        page: &mut Page,
         words: &Names,
         feed: &mut MemoryFeed,
-    ) -> Result<(), Stopped> {
+    ) -> Result<Told, Stopped> {
         let mut out = self.out.sink(alloc)?;
         let mut image = self.image.sink(alloc)?;
         let status = run(alloc, &words.items, feed, &mut out, &mut image);
-        print_run(page, out.held(), image.held(), status)
+        Ok(Told { out, image, status })
+    }
+
+    fn run_command(
+        &self,
+        alloc: Global,
+        command: &Words,
+        feed: &mut MemoryFeed,
+    ) -> Result<Told, Stopped>
+        requires { has_one_worker command.now ≡ true }
+    {
+        let mut out = self.out.sink(alloc)?;
+        let mut image = self.image.sink(alloc)?;
+        let status = run_still(alloc, command, feed, &mut out, &mut image);
+        Ok(Told { out, image, status })
     }
 
     fn feed(&self, alloc: Global, files: &FileTexts) -> Result<MemoryFeed, Stopped> {
@@ -109,8 +141,20 @@ impl Ends {
     }
 }
 
-fn print_run(page: &mut Page, report: &[u8], image: &[u8], status: Status) -> Result<(), Stopped> {
-    page.lines(b"> ", report)?;
-    page.lines(b": ", image)?;
-    page.number(b"= status ", u64::from(status.number()))
+impl Told {
+    fn print(&self, page: &mut Page) -> Result<(), Stopped> {
+        page.lines(b"> ", self.out.held())?;
+        page.lines(b": ", self.image.held())?;
+        page.number(b"= status ", u64::from(self.status.number()))
+    }
+
+    fn check(&self, other: &Told) -> Result<(), Stopped> {
+        if self.out.held() != other.out.held() || self.image.held() != other.image.held() {
+            return Err(Stopped);
+        }
+        if self.status.number() != other.status.number() {
+            return Err(Stopped);
+        }
+        Ok(())
+    }
 }

@@ -39,37 +39,37 @@ IsAnswer-command words list command (Ok answer) is (inr failed) = inr failed
 IsAnswer-command words list command (Err want) is given = tt
 
 -- an answer that isn't a failed feed's is given
-pub Gives-IsAnswer : (words : List (List ℕ)) (list : List FeedFile) (answer : Answer) (held : Sinks)
-    → IsAnswer words list answer ⊎ (answer ≡ feed_failed) → (answer ≡ feed_failed → ⊥) → IsWritten answer held → Gives words list answer.status held
-Gives-IsAnswer words list answer held (inl is) other written = record { answer = answer; is = is; status = refl; written = written }
-Gives-IsAnswer words list answer held (inr failed) other written = absurd (other failed)
+pub Gives-IsAnswer : (IsRight : Answer → Type 0) (answer : Answer) (held : Sinks)
+    → IsRight answer ⊎ (answer ≡ feed_failed) → (answer ≡ feed_failed → ⊥) → IsWritten answer held → Gives IsRight answer.status held
+Gives-IsAnswer IsRight answer held (inl is) other written = record { answer = answer; is = is; status = refl; written = written }
+Gives-IsAnswer IsRight answer held (inr failed) other written = absurd (other failed)
 
 -- what is given by a status is what the status says
-run_status : (words : List (List ℕ)) (list : List FeedFile) (before now : ℕ) (held : Sinks) (status : Status) → status ≢ SinkFault → Gives words list status held → IsRun words list before now status held
-run_status words list before now held Done other given = given
-run_status words list before now held PackagesFailed other given = given
-run_status words list before now held Overwrites other given = given
-run_status words list before now held BadInput other given = given
-run_status words list before now held NoMemory other given = tt
-run_status words list before now held FeedFault other given = tt
-run_status words list before now held SinkFault other given = absurd (other refl)
-run_status words list before now held BadWords other given = given
+run_status : (IsRight : Answer → Type 0) (before now : ℕ) (held : Sinks) (status : Status) → status ≢ SinkFault → Gives IsRight status held → IsRun IsRight before now status held
+run_status IsRight before now held Done other given = given
+run_status IsRight before now held PackagesFailed other given = given
+run_status IsRight before now held Overwrites other given = given
+run_status IsRight before now held BadInput other given = given
+run_status IsRight before now held NoMemory other given = tt
+run_status IsRight before now held FeedFault other given = tt
+run_status IsRight before now held SinkFault other given = absurd (other refl)
+run_status IsRight before now held BadWords other given = given
 
 -- and each answer is what its status says
-pub IsRun-IsAnswer : (words : List (List ℕ)) (list : List FeedFile) (before now : ℕ) (answer : Answer) (held : Sinks)
-    → IsAnswer words list answer ⊎ (answer ≡ feed_failed) → IsPossible answer → IsWritten answer held → IsRun words list before now answer.status held
-IsRun-IsAnswer words list before now answer held (inl is) possible written =
-    run_status words list before now held answer.status possible.sink (record { answer = answer; is = is; status = refl; written = written })
-IsRun-IsAnswer words list before now answer held (inr failed) possible written =
+pub IsRun-IsAnswer : (IsRight : Answer → Type 0) (before now : ℕ) (answer : Answer) (held : Sinks)
+    → IsRight answer ⊎ (answer ≡ feed_failed) → IsPossible answer → IsWritten answer held → IsRun IsRight before now answer.status held
+IsRun-IsAnswer IsRight before now answer held (inl is) possible written =
+    run_status IsRight before now held answer.status possible.sink (record { answer = answer; is = is; status = refl; written = written })
+IsRun-IsAnswer IsRight before now answer held (inr failed) possible written =
     let fault : answer.status ≡ FeedFault = ap (λ a. a.status) failed in
-    subst (λ status. IsRun words list before now status held) (sym fault) tt
+    subst (λ status. IsRun IsRight before now status held) (sym fault) tt
 
 -- an answer cut short, where it is the failed feed's by the feed's counts
-pub EndsEarly-IsAnswer : (words : List (List ℕ)) (list : List FeedFile) (before now : ℕ) (answer : Answer) (held : Sinks)
-    → IsAnswer words list answer ⊎ (answer ≡ feed_failed) → (answer ≡ feed_failed → Rose before now) → (before < now → answer ≡ feed_failed)
-    → IsCutShort answer held → EndsEarly words list before now held
-EndsEarly-IsAnswer words list before now answer held (inr failed) cause always cut = record { answer = answer; is = inr (failed, cause failed); cut = cut }
-EndsEarly-IsAnswer words list before now answer held (inl is) cause always cut =
+pub EndsEarly-IsAnswer : (IsRight : Answer → Type 0) (before now : ℕ) (answer : Answer) (held : Sinks)
+    → IsRight answer ⊎ (answer ≡ feed_failed) → (answer ≡ feed_failed → Rose before now) → (before < now → answer ≡ feed_failed)
+    → IsCutShort answer held → EndsEarly IsRight before now held
+EndsEarly-IsAnswer IsRight before now answer held (inr failed) cause always cut = record { answer = answer; is = inr (failed, cause failed); cut = cut }
+EndsEarly-IsAnswer IsRight before now answer held (inl is) cause always cut =
     elim (cases_lt before now) [
       | inl greater ↦ record { answer = answer; is = inr (always greater, cause (always greater)); cut = cut }
       | inr kept ↦ record { answer = answer; is = inl (is, kept); cut = cut }

@@ -1,9 +1,7 @@
 pub mod Answers
-pub mod Changes
-pub mod Entries
 pub mod FilesAnswers
-pub mod Folders
-pub mod Places
 pub mod Puts
 pub mod SmallFiles
 pub mod Told
+pub mod Builds
+pub mod Failed

@@ -1,74 +1,62 @@
 -- What the faults of an input tell, and what is answered where there is none.
-use Rattle.std.proofs.Common.{ℕ, ◌≡◌, ◌≢◌, List, Result, Ok, Err, length, ◌<◌, sym, ap, ◌∙◌, subst}
+use Rattle.std.proofs.Common.{ℕ, ◌≡◌, ◌≢◌, List, [], Result, Ok, Err, length, ◌<◌, refl, sym, ap, ◌∙◌, subst}
 use Rattle.std.specs.Prelude.{IfOk, All}
 use Rattle.std.specs.List.Sorted.{IsStrictlyIncreasing}
 use Rattle.std.proofs.lemmas.Option.{slice_get_within}
 use Rattle.std.proofs.lemmas.List.Elements.{All-weaker}
 use Rattle.br_path.specs.declared.values.Memory.{Memory as Want}
 use Rattle.br_path.specs.Files.{FileMap}
-use Rattle.build_report.specs.Faults.{plan_fault_words}
+use Rattle.build_report.specs.declared.fault.InputFault.{InputFault}
+use Rattle.build_report.specs.Faults.{HasPlanLine}
 use Rattle.build_report.specs.Plans.{names_text}
-use Rattle.dot_config.specs.Reading.{IsReading, IsFirstFault as IsFirstWishFault}
-use Rattle.kc_equations.specs.declared.fault.SolveFault.{SolveFault}
-use Rattle.kc_equations.specs.declared.fault.SolveFault.TheVariants as solving
-use Rattle.kc_equations.specs.Faults.{IsFirstFault as IsFirstSolveFault}
 use Rattle.kc_values.specs.Values.{Table}
-use Rattle.kc_menu.specs.Menu.{Declared}
-use Rattle.kc_menu.specs.declared.wishes.Wish.{Wish}
-use Rattle.kc_syntax.specs.declared.error.KcFault.{KcFault}
-use Rattle.kc_syntax.specs.Reading.{menu_of}
 use Rattle.plan_rows.specs.declared.rows.Part.TheVariants.{Prep}
-use Rattle.plan_rows.specs.Plan.{Planned, IsTask, IsPackage, IsPrepOf}
+use Rattle.plan_rows.specs.Plan.{Planned, IsTask, IsPrepOf}
 use Rattle.recipe_plan.specs.Packages.{ArePackages}
 use Rattle.recipe_plan.specs.Planning.{IsPlanning}
+use Rattle.recipe_plan.proofs.CycleLaws.{cycle_within}
 use Rattle.recipe_set.specs.declared.fault.PlanFault.{PlanFault}
 use Rattle.recipe_set.specs.declared.fault.PlanFault.TheVariants as planning
+use Rattle.recipe_set.specs.Fault.{HoldsNoMemory}
 use Rattle.br_run.specs.declared.answer.Answer.{Answer}
-use Rattle.br_run.specs.declared.fault.InputFault.{InputFault}
-use Rattle.br_run.specs.declared.fault.InputFault.TheVariants.{Told, Memory}
+use Rattle.br_run.specs.declared.fault.NoAnswer.{NoAnswer}
+use Rattle.br_run.specs.declared.fault.NoAnswer.TheVariants.{Fault, Memory}
 use Rattle.br_run.specs.Answer.{IsFaultAnswer, IsShowAnswer, packages, bad_input, written}
-use Rattle.br_run.specs.Configured.{HasNoSolution, unread, unsolved, IsConfigFault, no_menu, no_solution, wishes_text}
-use Rattle.br_run.specs.Fault.{Tells}
-use Rattle.br_run.specs.Planned.{AreNamesFor, IsPlanFault, IsPlanOf}
-use Rattle.br_run.specs.Report.{menu_fault_words, wish_fault_words, solve_fault_words, no_package_words}
-use Rattle.br_run.specs.Shown.{Relation, IsShowFault, no_package}
+use Rattle.br_run.specs.Fault.{Faults, Tells}
+use Rattle.br_run.specs.Planned.{AreNamesFor, IsPlanOf}
+use Rattle.br_run.specs.Shown.{Relation}
 
--- words that are some are others, where each of those is one of these
-pub Tells-map : (These Those : List ℕ → Type 0) (fault : InputFault) → ((words : List ℕ) → These words → Those words) → Tells These fault → Tells Those fault
-Tells-map These Those (Told words) each are = each words are
+-- faults that are some are others, where each of those is one of these
+pub Tells-map : (These Those : Faults) (fault : NoAnswer) → ((one : InputFault) (names : List (List ℕ)) → These one names → Those one names) → Tells These fault → Tells Those fault
+Tells-map These Those (Fault one names) each are = each one names are
 Tells-map These Those Memory each are = tt
 
--- the answer to a fault is one that its words give
-pub fault_answered : (P : Answer → Type 0) (AreWords : List ℕ → Type 0) (fault : InputFault) (result : Result Answer Want)
-    → ((words : List ℕ) → AreWords words → P (bad_input words)) → Tells AreWords fault → IfOk result (IsFaultAnswer fault) → IfOk result P
-fault_answered P AreWords (Told words) (Ok answer) gives are is = subst P (sym is) (gives words are)
-fault_answered P AreWords Memory (Ok answer) gives are is = absurd is
-fault_answered P AreWords fault (Err want) gives are is = tt
+-- the answer to a fault is one that the fault gives
+pub fault_answered : (P : Answer → Type 0) (AreFaults : Faults) (fault : NoAnswer) (result : Result Answer Want)
+    → ((one : InputFault) (names : List (List ℕ)) → AreFaults one names → P (bad_input one names)) → Tells AreFaults fault → IfOk result (IsFaultAnswer fault) → IfOk result P
+fault_answered P AreFaults (Fault one names) (Ok answer) gives are is = subst P (sym is) (gives one names are)
+fault_answered P AreFaults Memory (Ok answer) gives are is = absurd is
+fault_answered P AreFaults fault (Err want) gives are is = tt
 
--- ---- words of faults
+-- ---- faults
 
-pub unread_words : (menu : Declared) (text words : List ℕ) (line : ℕ) → IsFirstWishFault text line → words ≡ wish_fault_words line → HasNoSolution menu text words
-unread_words menu text words line is same = subst (HasNoSolution menu text) (sym same) (unread line is)
+-- what holds of a fault that is given
+pub told : (AreFaults : Faults) (fault : NoAnswer) (one : InputFault) → AreFaults one [] → fault ≡ Fault one [] → Tells AreFaults fault
+told AreFaults fault one is same = subst (Tells AreFaults) (sym same) is
 
-pub unsolved_words : (menu : Declared) (text words : List ℕ) (wishes : List Wish) (fault : SolveFault) → IsReading text wishes → IsFirstSolveFault menu wishes fault → fault ≢ solving.Memory
-    → words ≡ solve_fault_words fault → HasNoSolution menu text words
-unsolved_words menu text words wishes fault read is other same = subst (HasNoSolution menu text) (sym same) (unsolved wishes fault read is other)
-
-pub no_menu_words : (files : FileMap) (words : List ℕ) (fault : KcFault) → menu_of files ≡ Err fault → words ≡ menu_fault_words fault → IsConfigFault files words
-no_menu_words files words fault is same = subst (IsConfigFault files) (sym same) (no_menu fault is)
-
-pub no_solution_told : (files : FileMap) (menu : Declared) (text : List ℕ) (fault : InputFault) → menu_of files ≡ Ok menu → text ≡ wishes_text files
-    → Tells (HasNoSolution menu text) fault → Tells (IsConfigFault files) fault
-no_solution_told files menu text fault is same =
-    Tells-map (HasNoSolution menu text) (IsConfigFault files) fault (λ words none. no_solution menu words is (subst (λ t. HasNoSolution menu t words) same none))
-
-pub no_plan_words : (files : FileMap) (values : Table) (fault : PlanFault) (words : List ℕ) → (fault ≢ planning.Memory → IsPlanning files values (Err fault)) → fault ≢ planning.Memory
-    → (names : List (List ℕ)) × AreNamesFor files values fault names × (words ≡ plan_fault_words names fault) → IsPlanFault files values words
-no_plan_words files values fault words first other told =
-    record { fault = fault; names = told.0; first = first other; no_memory = other; named = told.1; words_are = told.2 }
-
-pub no_package_told : (files : FileMap) (plan : Planned) (name words : List ℕ) → IsPlanOf files plan → (IsPackage plan name → ⊥) → words ≡ no_package_words name → IsShowFault files name words
-no_package_told files plan name words is none same = subst (IsShowFault files name) (sym same) (no_package plan is none)
+-- a fault of the plan of files and values has a line
+pub plan_line : (files : FileMap) (values : Table) (fault : PlanFault) (names : List (List ℕ)) → IsPlanning files values (Err fault) → fault ≢ planning.Memory → HoldsNoMemory fault
+    → AreNamesFor files values fault names → HasPlanLine names fault
+plan_line files values (planning.WrongName at) names first other held named = tt
+plan_line files values (planning.Recipe at cause) names first other held named = tt
+plan_line files values (planning.Expand owner variable cause) names first other held named = held
+plan_line files values (planning.PatchFile at) names first other held named = tt
+plan_line files values (planning.NoRecipe name) names first other held named = tt
+plan_line files values (planning.UnknownDependency owner name) names first other held named = tt
+plan_line files values (planning.NotSelected owner name) names first other held named = tt
+plan_line files values planning.TooManyPackages names first other held named = tt
+plan_line files values (planning.Cycle task) names first other held named = cycle_within files values task names first named
+plan_line files values planning.Memory names first other held named = absurd (other refl)
 
 -- ---- packages that are shown
 

@@ -1,34 +1,31 @@
 -- What the builder answers to words and to the files of a feed.
-use Rattle.std.specs.Prelude.{◌≡◌, ◌≢◌, ℕ, ◌⊎◌, Bool, true, false, ◌==◌, ◌&&◌, not, List, length, Some, None, codes}
+use Rattle.std.specs.Prelude.{◌≡◌, ◌≢◌, ℕ, ◌⊎◌, Bool, true, false, ◌==◌, ◌&&◌, not, List, [], ◌++◌, None, codes}
 use Rattle.br_path.specs.Files.{FileMap}
 use Rattle.br_words.specs.declared.command.Words.{Words}
 use Rattle.br_words.specs.declared.command.Words.TheVariants.{Build, Config, Plan, ShowDepends, ShowRecursive, ShowRdepends}
 use Rattle.br_words.specs.Command.{IsCommand, IsMisfit}
+use Rattle.build_report.specs.declared.fault.InputFault.{InputFault}
+use Rattle.build_report.specs.declared.fault.InputFault.TheVariants.{Read}
+use Rattle.build_report.specs.Faults.{fault_text}
+use Rattle.build_report.specs.Lines.{status_line}
 use Rattle.build_report.specs.Plans.{plan_text, names_text}
 use Rattle.dot_config.specs.Writing.{config_text}
 use Rattle.feed_io.specs.declared.feed.FeedFile.{FeedFile}
 use Rattle.feed_io.specs.declared.read.ReadFault.{ReadFault}
 use Rattle.feed_io.specs.Reading.{IsFaultless, IsFirstReadFault, files_of}
-use Rattle.first_form.specs.declared.form.FirstForm.{FirstForm}
-use Rattle.first_form.specs.Form.{IsForm, form_files}
-use Rattle.image_text.specs.Image.{image_text}
 use Rattle.plan_rows.specs.Plan.{Planned}
 use Rattle.br_run.specs.declared.answer.Answer.{Answer}
 use Rattle.br_run.specs.declared.configuration.Configuration.{Configuration}
-use Rattle.br_run.specs.declared.fault.InputFault.{InputFault}
-use Rattle.br_run.specs.declared.fault.InputFault.TheVariants.{Told, Memory}
+use Rattle.br_run.specs.declared.fault.NoAnswer.{NoAnswer}
+use Rattle.br_run.specs.declared.fault.NoAnswer.TheVariants.{Fault, Memory}
 use Rattle.br_run.specs.declared.status.Status.TheVariants.{Done, BadInput, NoMemory, FeedFault, SinkFault, BadWords}
 use Rattle.br_run.specs.Configured.{IsConfiguration, IsConfigFault}
-use Rattle.br_run.specs.Planned.{IsInputFault, IsPlanOf}
-use Rattle.br_run.specs.Report.{fault_report, misfit_words, built_report, read_fault_words}
-use Rattle.br_run.specs.Root.{root_entries}
+use Rattle.br_run.specs.Built.{shelves_of, build_answer}
+use Rattle.br_run.specs.Planned.{IsInputFault, IsPlanOf, IsPlanWith}
+use Rattle.br_run.specs.Report.{fault_report, misfit_words}
 use Rattle.br_run.specs.Shown.{Relation, Depends, DependsInSteps, IsDependedOn, AreShown, IsShowFault}
 
--- the answer where the one package is built
-abbrev pub built : FirstForm → Answer
-built form = record { status = Done; report = built_report form.package (length (root_entries form)); image = Some (image_text (root_entries form)) }
-
--- the answer to input that isn't built yet
+-- the answer to what isn't built yet
 abbrev pub not_yet : Answer
 not_yet = record { status = BadInput; report = fault_report (codes "not-yet") 3; image = None }
 
@@ -40,39 +37,38 @@ feed_failed = record { status = FeedFault; report = fault_report (codes "feed") 
 abbrev pub bad_words : ℕ → Answer
 bad_words place = record { status = BadWords; report = fault_report (misfit_words place) 7; image = None }
 
--- the answer to an input with a fault, by the fault's words
-abbrev pub bad_input : List ℕ → Answer
-bad_input fault = record { status = BadInput; report = fault_report fault 3; image = None }
+-- the answer to an input with a fault, by the fault and the names of the tasks
+abbrev pub bad_input : InputFault → List (List ℕ) → Answer
+bad_input fault names = record { status = BadInput; report = fault_text names fault ++ status_line 3; image = None }
 
 -- the answer that is a text: a command that puts no image writes no status where it succeeds
 abbrev pub written : List ℕ → Answer
 written text = record { status = Done; report = text; image = None }
 
--- the answer to a fault of the input; to want of memory there is none
-abbrev pub IsFaultAnswer : InputFault → Answer → Type 0
-IsFaultAnswer (Told words) answer = answer ≡ bad_input words
+-- the answer to a fault of the input; out of memory there is none
+abbrev pub IsFaultAnswer : NoAnswer → Answer → Type 0
+IsFaultAnswer (Fault fault names) answer = answer ≡ bad_input fault names
 IsFaultAnswer Memory answer = ⊥
 
--- the answer to files that are to be built: the package built, where they have the first form, or that it isn't built yet
-abbrev pub IsBuildAnswer : FileMap → Answer → Type 0
-IsBuildAnswer files answer =
-    ((form : FirstForm) × IsForm form × (files ≡ form_files form) × (answer ≡ built form))
-    ⊎ (((form : FirstForm) → IsForm form → files ≡ form_files form → ⊥) × (answer ≡ not_yet))
+-- the answer to files that are to be built: their first fault; or what their plan gives, built task after task
+pub data IsBuildAnswer (files : FileMap) : Answer → Type 0 where
+  no_build : (fault : InputFault) (names : List (List ℕ)) → IsInputFault files fault names → IsBuildAnswer files (bad_input fault names)
+  build : (plan : Planned) (forced : List (List ℕ)) → IsPlanWith files plan forced → IsBuildAnswer files (build_answer plan (shelves_of files plan) forced)
 
 -- the answer to files whose configuration is asked for: its first fault, or the lines of its values
 pub data IsConfigAnswer (files : FileMap) : Answer → Type 0 where
-  no_values : (words : List ℕ) → IsConfigFault files words → IsConfigAnswer files (bad_input words)
+  no_values : (fault : InputFault) (names : List (List ℕ)) → IsConfigFault files fault names → IsConfigAnswer files (bad_input fault names)
   values : (configuration : Configuration) → IsConfiguration files configuration →
       IsConfigAnswer files (written (config_text configuration.menu.entries configuration.values))
 
 -- the answer to files whose plan is asked for: their first fault, or the tasks in their order
 pub data IsPlanAnswer (files : FileMap) : Answer → Type 0 where
-  no_tasks : (words : List ℕ) → IsInputFault files words → IsPlanAnswer files (bad_input words)
+  no_tasks : (fault : InputFault) (names : List (List ℕ)) → IsInputFault files fault names → IsPlanAnswer files (bad_input fault names)
   tasks : (plan : Planned) → IsPlanOf files plan → IsPlanAnswer files (written (plan_text plan))
 
 -- the answer to files of which packages are to be shown for the one of a name: why none are, or the packages
 pub data IsShowAnswer (Related : Relation) (name : List ℕ) (files : FileMap) : Answer → Type 0 where
-  no_packages : (words : List ℕ) → IsShowFault files name words → IsShowAnswer Related name files (bad_input words)
+  no_packages : (fault : InputFault) (names : List (List ℕ)) → IsShowFault files name fault names → IsShowAnswer Related name files (bad_input fault names)
   packages : (plan : Planned) (tasks : List ℕ) → IsPlanOf files plan → AreShown Related plan name tasks →
       IsShowAnswer Related name files (written (names_text plan tasks))
 
@@ -93,6 +89,15 @@ is_build (ShowDepends name) = false
 is_build (ShowRecursive name) = false
 is_build (ShowRdepends name) = false
 
+-- a `build` is by one worker
+abbrev pub has_one_worker : Words → Bool
+has_one_worker (Build workers trace) = workers == 1
+has_one_worker Config = true
+has_one_worker Plan = true
+has_one_worker (ShowDepends name) = true
+has_one_worker (ShowRecursive name) = true
+has_one_worker (ShowRdepends name) = true
+
 -- the answer to the files of a command that is run
 abbrev pub IsFilesAnswer : Words → FileMap → Answer → Type 0
 IsFilesAnswer (Build workers trace) = IsBuildAnswer
@@ -105,7 +110,7 @@ IsFilesAnswer (ShowRdepends name) = IsShowAnswer IsDependedOn name
 -- the answer to a list of files: its first fault, or what its files give
 abbrev pub IsListAnswer : Words → List FeedFile → Answer → Type 0
 IsListAnswer command list answer =
-    ((fault : ReadFault) × IsFirstReadFault list fault × (answer ≡ bad_input (read_fault_words fault)))
+    ((fault : ReadFault) × IsFirstReadFault list fault × (answer ≡ bad_input (Read fault) []))
     ⊎ (IsFaultless list × IsFilesAnswer command (files_of list) answer)
 
 -- the answer to a list of files of a command, which is run or isn't yet

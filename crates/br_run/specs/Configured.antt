@@ -12,31 +12,32 @@ use Rattle.kc_equations.specs.declared.fault.SolveFault.{SolveFault}
 use Rattle.kc_equations.specs.declared.fault.SolveFault.TheVariants.{Memory}
 use Rattle.kc_equations.specs.Faults.{IsSolved, IsFirstFault as IsFirstSolveFault}
 use Rattle.br_run.specs.declared.configuration.Configuration.{Configuration}
-use Rattle.br_run.specs.Report.{menu_fault_words, wish_fault_words, solve_fault_words}
+use Rattle.build_report.specs.declared.fault.InputFault.{InputFault}
+use Rattle.build_report.specs.declared.fault.InputFault.TheVariants.{Menu, Wish as BadWish, Solve}
+use Rattle.br_run.specs.Fault.{Faults}
 
 -- the text of the wishes: a missing `.config` is an empty one
 abbrev pub wishes_text : FileMap → List ℕ
 wishes_text files = unwrap_or (fin.get files (codes ".config" ∷ [])) []
 
--- these values solve a menu and the wishes that a text states
-pub record IsSolution (menu : Declared) (text : List ℕ) (values : Table) : Type 0 where
+-- these values solve a menu and the wishes that a text states, and these symbols are forced
+pub record IsSolution (menu : Declared) (text : List ℕ) (values : Table) (forced : List (List ℕ)) : Type 0 where
   pub wishes : List Wish
-  pub forced : List (List ℕ)
   pub read : IsReading text wishes
   pub solved : IsSolved menu wishes values forced
 
--- the configuration of files: the menu that they declare, and the values that solve it and the wishes of `.config`
+-- the configuration of files: the menu that they declare, the values that solve it and the wishes of `.config`, and the symbols that are forced
 pub record IsConfiguration (files : FileMap) (configuration : Configuration) : Type 0 where
   pub menu : menu_of files ≡ Ok configuration.menu
-  pub values : IsSolution configuration.menu (wishes_text files) configuration.values
+  pub values : IsSolution configuration.menu (wishes_text files) configuration.values configuration.forced
 
--- why a menu and a text of wishes have no solution, in words: the first line that is none, or else the first fault of the wishes
-pub data HasNoSolution (menu : Declared) (text : List ℕ) : List ℕ → Type 0 where
-  unread : (line : ℕ) → IsFirstWishFault text line → HasNoSolution menu text (wish_fault_words line)
+-- why a menu and a text of wishes have no solution: the first line that is none, or else the first fault of the wishes
+pub data HasNoSolution (menu : Declared) (text : List ℕ) : InputFault → List (List ℕ) → Type 0 where
+  unread : (line : ℕ) → IsFirstWishFault text line → HasNoSolution menu text (BadWish line) []
   unsolved : (wishes : List Wish) (fault : SolveFault) → IsReading text wishes → IsFirstSolveFault menu wishes fault → fault ≢ Memory →
-      HasNoSolution menu text (solve_fault_words fault)
+      HasNoSolution menu text (Solve fault) []
 
--- the first fault of the configuration of files, in words: that of the files that declare the menu, or else why it has no solution
-pub data IsConfigFault (files : FileMap) : List ℕ → Type 0 where
-  no_menu : (fault : KcFault) → menu_of files ≡ Err fault → IsConfigFault files (menu_fault_words fault)
-  no_solution : (menu : Declared) (words : List ℕ) → menu_of files ≡ Ok menu → HasNoSolution menu (wishes_text files) words → IsConfigFault files words
+-- the first fault of the configuration of files: that of the files that declare the menu, or else why it has no solution
+pub data IsConfigFault (files : FileMap) : InputFault → List (List ℕ) → Type 0 where
+  no_menu : (fault : KcFault) → menu_of files ≡ Err fault → IsConfigFault files (Menu fault) []
+  no_solution : (menu : Declared) {fault : InputFault} {names : List (List ℕ)} → menu_of files ≡ Ok menu → HasNoSolution menu (wishes_text files) fault names → IsConfigFault files fault names

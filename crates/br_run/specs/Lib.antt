@@ -1,10 +1,10 @@
 pub mod Status
 pub mod Report
 pub mod Sinks
-pub mod Root
 pub mod Fault
 pub mod Configured
 pub mod Planned
 pub mod Shown
 pub mod Answer
+pub mod Built
 pub mod Out

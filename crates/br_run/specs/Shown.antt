@@ -1,5 +1,5 @@
 -- The packages that are shown of a plan.
-use Rattle.std.specs.Prelude.{◌≡◌, ℕ, true, List, All}
+use Rattle.std.specs.Prelude.{[], ◌≡◌, ℕ, true, List, All}
 use Rattle.std.specs.List.Sorted.{IsStrictlyIncreasing}
 use Rattle.cycle_walks.specs.Walks.{Reaches}
 use Rattle.dep_graph.specs.Needs.{Needs}
@@ -10,7 +10,9 @@ use Rattle.recipe_plan.specs.Packages.{ArePackages, depends_on}
 use Rattle.br_run.specs.declared.show.Show.{Show}
 use Rattle.br_run.specs.declared.show.Show.TheVariants as show
 use Rattle.br_run.specs.Planned.{IsInputFault, IsPlanOf}
-use Rattle.br_run.specs.Report.{no_package_words}
+use Rattle.build_report.specs.declared.fault.InputFault.{InputFault}
+use Rattle.build_report.specs.declared.fault.InputFault.TheVariants.{NoPackage}
+use Rattle.br_run.specs.Fault.{Faults}
 
 -- a relation of packages by what tasks need: the second is shown where the first is asked for
 abbrev pub Relation : Type 1
@@ -42,7 +44,7 @@ pub record AreShown (Related : Relation) (plan : Planned) (name tasks : List ℕ
   pub preps : All (IsTask plan Prep) tasks
   pub packages : ArePackages asked tasks (Related plan.graph)
 
--- why no packages are shown for a name, in words: the first fault of the input, or that the plan has no package of this name
-pub data IsShowFault (files : FileMap) (name : List ℕ) : List ℕ → Type 0 where
-  no_plan : (words : List ℕ) → IsInputFault files words → IsShowFault files name words
-  no_package : (plan : Planned) → IsPlanOf files plan → (IsPackage plan name → ⊥) → IsShowFault files name (no_package_words name)
+-- why no packages are shown for a name: the first fault of the input, or that the plan has no package of this name
+pub data IsShowFault (files : FileMap) (name : List ℕ) : InputFault → List (List ℕ) → Type 0 where
+  no_plan : {fault : InputFault} {names : List (List ℕ)} → IsInputFault files fault names → IsShowFault files name fault names
+  no_package : (plan : Planned) → IsPlanOf files plan → (IsPackage plan name → ⊥) → IsShowFault files name (NoPackage name) []

@@ -1,11 +1,15 @@
 //! What is answered, before any of it is put.
 ghost use Rattle.std.specs.Prelude.{◌≡◌, IfOk};
+ghost use Rattle.build_report.specs.Faults as report;
+ghost use Rattle.br_run.specs.Fault.{HasLine};
 ghost use Rattle.br_run.specs.Answer.{IsFaultAnswer, bad_input, bad_words, feed_failed, not_yet, written};
 
-use crate::fault::InputFault;
-use crate::report::{fault_report, misfit_words};
+use crate::fault::{NoAnswer, no_names};
+use crate::report::{fault_report, misfit_words, with_status};
 use crate::status::Status;
-use br_path::{Bytes, Memory};
+use br_path::{Bytes, Memory, Names};
+use build_report::{InputFault, fault_text};
+use feed_io::ReadFault;
 use std::alloc::Global;
 
 /// A status with the texts that go with it.
@@ -43,24 +47,31 @@ pub(crate) fn answer_bad_words(alloc: Global, place: u32) -> Result<Answer, Memo
     })
 }
 
-/// The answer to an input with a fault, by the fault's words.
-pub(crate) fn answer_bad_input(alloc: Global, fault: Bytes) -> Result<Answer, Memory>
-    ensures { IfOk result (λ answer. answer ≡ bad_input fault) }
+/// The answer to an input with a fault, by the names of the tasks.
+pub(crate) fn answer_bad_input(
+    alloc: Global,
+    fault: &InputFault,
+    names: &Names,
+) -> Result<Answer, Memory>
+    requires { report.HasLine names.now fault.now }
+    ensures { IfOk result (λ answer. answer ≡ bad_input fault.now names.now) }
 {
+    let line = fault_text(alloc, fault, names)?;
     Ok(Answer {
         status: Status::BadInput,
-        report: fault_report(alloc, fault.as_slice(), Status::BadInput.number())?,
+        report: with_status(alloc, line, Status::BadInput.number())?,
         image: None,
     })
 }
 
 /// The answer to a fault of the input.
-pub(crate) fn answer_fault(alloc: Global, fault: InputFault) -> Result<Answer, Memory>
-    ensures { IfOk result (IsFaultAnswer fault) }
+pub(crate) fn answer_fault(alloc: Global, fault: &NoAnswer) -> Result<Answer, Memory>
+    requires { HasLine fault.now }
+    ensures { IfOk result (IsFaultAnswer fault.now) }
 {
     match fault {
-        InputFault::Told(words) => answer_bad_input(alloc, words),
-        InputFault::Memory => Err(Memory),
+        NoAnswer::Fault(fault, names) => answer_bad_input(alloc, fault, names),
+        NoAnswer::Memory => Err(Memory),
     }
 }
 
@@ -90,9 +101,10 @@ pub(crate) fn answer_not_yet(alloc: Global) -> Result<Answer, Memory>
 pub(crate) fn answer_feed_failed(alloc: Global) -> Result<Answer, Memory>
     ensures { IfOk result (λ answer. answer ≡ feed_failed) }
 {
+    let line = fault_text(alloc, &InputFault::Read(ReadFault::Feed), &no_names(alloc))?;
     Ok(Answer {
         status: Status::FeedFault,
-        report: fault_report(alloc, b"feed", Status::FeedFault.number())?,
+        report: with_status(alloc, line, Status::FeedFault.number())?,
         image: None,
     })
 }

@@ -12,12 +12,13 @@ use crate::answer::{
 };
 use crate::build::answer_build;
 use crate::config::answer_config;
+use crate::fault::no_names;
 use crate::plan::answer_plan;
-use crate::report::read_fault_words;
 use crate::show::{Show, answer_show};
 use crate::status::Status;
 use br_path::{Bytes, Files, Memory};
 use br_words::{Words, WordsFault};
+use build_report::InputFault;
 use feed_io::{Feed, ReadFault, read_all};
 use std::alloc::Global;
 
@@ -41,7 +42,12 @@ pub fn answer_to<F: Feed>(alloc: Global, words: &[Bytes], feed: &mut F) -> Resul
     }
 }
 
-fn answer_command<F: Feed>(alloc: Global, command: &Words, feed: &mut F) -> Result<Answer, Memory>
+/// Finds the answer to a command over the files of a feed.
+pub fn answer_command<F: Feed>(
+    alloc: Global,
+    command: &Words,
+    feed: &mut F,
+) -> Result<Answer, Memory>
     ensures told { (list : List FeedFile) → F.left feed.old ≡ Some list → IfOk result (λ answer. IsCommandAnswer (is_run command.now) command.now list answer ⊎ (answer ≡ feed_failed)) }
     ensures possible { IfOk result IsPossible }
     ensures no_image { is_build command.now ≡ false → IfOk result (λ answer. answer.image ≡ None) }
@@ -78,7 +84,7 @@ fn answer_list<F: Feed>(alloc: Global, command: &Words, feed: &mut F) -> Result<
         Err(fault) => match fault {
             ReadFault::Memory => return Err(Memory),
             ReadFault::Feed => return answer_feed_failed(alloc),
-            other => return answer_bad_input(alloc, read_fault_words(alloc, &other)?),
+            other => return answer_bad_input(alloc, &InputFault::Read(other), &no_names(alloc)),
         },
     };
     answer_files(alloc, command, &files)

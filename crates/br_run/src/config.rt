@@ -15,7 +15,7 @@ pub fn answer_config(alloc: Global, files: &Files) -> Result<Answer, Memory>
 {
     let configuration = match configuration_of(alloc, files) {
         Ok(configuration) => configuration,
-        Err(fault) => return answer_fault(alloc, fault),
+        Err(fault) => return answer_fault(alloc, &fault),
     };
     let lines = dot_config::write(alloc, &configuration.menu, &configuration.values)?;
     Ok(answer_text(lines))

@@ -2,43 +2,47 @@
 ghost use Rattle.std.specs.Prelude.{◌≡◌, ◌<◌, ◌^◌, IfOk, IfErr, length};
 ghost use Rattle.br_path.specs.Files.{AreSmall};
 ghost use Rattle.br_run.specs.Configured.{HasNoSolution, IsConfigFault, IsConfiguration, IsSolution, wishes_text};
-ghost use Rattle.br_run.specs.Fault.{Tells};
+ghost use Rattle.br_run.specs.Fault.{HasLine, Tells};
 
-use crate::fault::InputFault;
-use crate::report::{menu_fault_words, solve_fault_words, wish_fault_words};
-use br_path::{Files, Memory, Path};
+use crate::fault::NoAnswer;
+use br_path::{Files, Memory, Names, Path};
+use build_report::InputFault;
 use dot_config::WishError;
 use kc_menu::Menu;
-use kc_solve::{SolveFault, solve};
+use kc_solve::{SolveFault, Solved, solve};
 use kc_syntax::{KcError, parse};
 use kc_values::Values;
 use std::alloc::Global;
 
-/// A configuration: what is declared, and the value of each symbol.
+/// A configuration: what is declared, the value of each symbol, and the symbols that are forced.
 #[derive(Drop)]
 pub(crate) struct Configuration {
     pub(crate) menu: Menu,
     pub(crate) values: Values,
+    pub(crate) forced: Names,
 }
 
-/// The configuration of files: the menu that they declare, and the values that solve it and the wishes of `.config`.
-pub(crate) fn configuration_of(alloc: Global, files: &Files) -> Result<Configuration, InputFault>
+/// The configuration of files: the menu that they declare, and what solves it and the wishes of `.config`.
+pub(crate) fn configuration_of(alloc: Global, files: &Files) -> Result<Configuration, NoAnswer>
     requires { AreSmall files.now }
     ensures configuration { IfOk result (IsConfiguration files.now) }
     ensures fault { IfErr result (Tells (IsConfigFault files.now)) }
+    ensures line { IfErr result HasLine }
 {
     let text = wishes_text(alloc, files)?;
     let menu = match parse(alloc, files) {
         Ok(menu) => menu,
         Err(error) => match error {
-            KcError::Fault(fault) => {
-                return Err(InputFault::Told(menu_fault_words(alloc, &fault)?));
-            }
-            KcError::Memory => return Err(InputFault::Memory),
+            KcError::Fault(fault) => return Err(NoAnswer::of(alloc, InputFault::Menu(fault))),
+            KcError::Memory => return Err(NoAnswer::Memory),
         },
     };
-    match values_of(alloc, &menu, text) {
-        Ok(values) => Ok(Configuration { menu, values }),
+    match solution_of(alloc, &menu, text) {
+        Ok(Solved { values, forced }) => Ok(Configuration {
+            menu,
+            values,
+            forced,
+        }),
         Err(fault) => Err(fault),
     }
 }
@@ -56,24 +60,25 @@ fn wishes_text(alloc: Global, files: &Files) -> Result<&[u8], Memory>
     Ok(files.get(&at).unwrap_or(&[]))
 }
 
-/// The values that solve a menu and the wishes that a text states.
-fn values_of(alloc: Global, menu: &Menu, text: &[u8]) -> Result<Values, InputFault>
+/// The values that solve a menu and the wishes that a text states, and the symbols that are forced.
+fn solution_of(alloc: Global, menu: &Menu, text: &[u8]) -> Result<Solved, NoAnswer>
     requires { length text.now < 2 ^ 31 }
-    ensures values { IfOk result (IsSolution menu.now text.now) }
+    ensures values { IfOk result (λ solved. IsSolution menu.now text.now solved.values solved.forced) }
     ensures fault { IfErr result (Tells (HasNoSolution menu.now text.now)) }
+    ensures line { IfErr result HasLine }
 {
     let wishes = match dot_config::read(alloc, text) {
         Ok(wishes) => wishes,
         Err(error) => match error {
-            WishError::Line(line) => return Err(InputFault::Told(wish_fault_words(alloc, line)?)),
-            WishError::Memory => return Err(InputFault::Memory),
+            WishError::Line(line) => return Err(NoAnswer::of(alloc, InputFault::Wish(line))),
+            WishError::Memory => return Err(NoAnswer::Memory),
         },
     };
     match solve(alloc, menu, &wishes) {
-        Ok(solved) => Ok(solved.values),
+        Ok(solved) => Ok(solved),
         Err(fault) => match fault {
-            SolveFault::Memory => Err(InputFault::Memory),
-            other => Err(InputFault::Told(solve_fault_words(alloc, &other)?)),
+            SolveFault::Memory => Err(NoAnswer::Memory),
+            other => Err(NoAnswer::of(alloc, InputFault::Solve(other))),
         },
     }
 }

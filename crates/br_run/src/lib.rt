@@ -16,11 +16,12 @@ mod plan;
 mod planning;
 mod put;
 mod report;
-mod root;
 mod show;
 mod status;
+mod still;
 mod top;
 
 pub use answer::Answer;
 pub use status::Status;
+pub use still::{has_one_worker, run_still};
 pub use top::run;

@@ -16,7 +16,7 @@ pub fn answer_plan(alloc: Global, files: &Files) -> Result<Answer, Memory>
 {
     let plan = match plan_of(alloc, files) {
         Ok(plan) => plan,
-        Err(fault) => return answer_fault(alloc, fault),
+        Err(fault) => return answer_fault(alloc, &fault),
     };
     Ok(answer_text(plan_text(alloc, &plan)?))
 }

@@ -39,7 +39,7 @@ pub(crate) fn answer_show(
 {
     let asked = match asked_of(alloc, files, name) {
         Ok(asked) => asked,
-        Err(fault) => return answer_fault(alloc, fault),
+        Err(fault) => return answer_fault(alloc, &fault),
     };
     let tasks = shown(alloc, &asked.plan, asked.prep, show)?;
     Ok(answer_text(names_text(alloc, &asked.plan, &tasks)?))

@@ -6,7 +6,7 @@ ghost use Rattle.feed_io.specs.Sink.{Appended};
 ghost use Rattle.br_run.specs.declared.answer.Answer.{Answer as AnAnswer};
 ghost use Rattle.br_words.specs.declared.command.Words.{Words as WordsValue};
 ghost use Rattle.br_words.specs.Command.{IsCommand, IsMisfit};
-ghost use Rattle.br_run.specs.Answer.{IsPossible, feed_failed, is_build};
+ghost use Rattle.br_run.specs.Answer.{IsAnswer, IsPossible, feed_failed, is_build};
 ghost use Rattle.br_run.specs.Out.{Gives, IsRun};
 ghost use Rattle.br_run.specs.Report.{fault_report, misfit_words};
 ghost use Rattle.br_run.specs.Sinks.{sinks, IsCutShort};
@@ -21,9 +21,10 @@ use std::alloc::Global;
 /// Runs the builder: reads the files of a feed, and puts an image and a report.
 ///
 /// The words are those behind the program's name. `config` reports the lines of the configuration, `plan` the tasks in their order, and
-/// the show commands the packages that are asked for; they put no image. `build` by one worker without a trace builds input of the
-/// first form. To other options of `build`, and to other input that is to be built, the report says `fault not-yet`. The image is
-/// put first, and the report behind it; both are made before the first put, so that after `NoMemory` the sinks are as before.
+/// the show commands the packages that are asked for; they put no image. `build` by one worker without a trace runs the tasks
+/// of the plan one after another. It puts the image of what the packages wrote if none failed and no path was overwritten. To other
+/// options of `build` the report says `fault not-yet`. The image is put first, and the report after it; both are made before the
+/// first put, so that after `NoMemory` the sinks are as before.
 pub fn run<F: Feed, O: Sink, I: Sink>(
     alloc: Global,
     words: &[Bytes],
@@ -35,10 +36,10 @@ pub fn run<F: Feed, O: Sink, I: Sink>(
     ensures answers { (list : List FeedFile) → F.left feed.old ≡ Some list
         → (Rose (F.faults feed.old) (F.faults feed.new) → ⊥) → (Rose (O.faults out.old) (O.faults out.new) → ⊥) → (Rose (I.faults image.old) (I.faults image.new) → ⊥)
         → result ≢ Status.NoMemory
-        → Gives words.now list result (sinks (I.held image.old) (I.held image.new) (O.held out.old) (O.held out.new)) }
+        → Gives (IsAnswer words.now list) result (sinks (I.held image.old) (I.held image.new) (O.held out.old) (O.held out.new)) }
 
     // The same by the status, whatever fails.
-    ensures told { (list : List FeedFile) → F.left feed.old ≡ Some list → IsRun words.now list (F.faults feed.old) (F.faults feed.new) result (sinks (I.held image.old) (I.held image.new) (O.held out.old) (O.held out.new)) }
+    ensures told { (list : List FeedFile) → F.left feed.old ≡ Some list → IsRun (IsAnswer words.now list) (F.faults feed.old) (F.faults feed.new) result (sinks (I.held image.old) (I.held image.new) (O.held out.old) (O.held out.new)) }
 
     // What holds over feeds and sinks that tell nothing, too.
     ensures memory { result ≡ Status.NoMemory → (out.new ≡ out.old) × (image.new ≡ image.old) }

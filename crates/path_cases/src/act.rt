@@ -8,8 +8,6 @@ pub(crate) enum Act {
     File(FileAct),
     Feed(FeedAct),
     Sink(SinkAct),
-    Image(ImageAct),
-    Tree(TreeAct),
 }
 
 /// A question about paths.
@@ -53,29 +51,7 @@ pub(crate) enum SinkAct {
     Held,
 }
 
-/// What is done with the root of an image.
-#[derive(Clone, Copy)]
-pub(crate) enum ImageAct {
-    Dir,
-    Link,
-    First,
-    Same,
-    Write,
-}
-
-/// What is done with a tree and its pen.
-#[derive(Clone, Copy)]
-pub(crate) enum TreeAct {
-    Pen,
-    Counts,
-    Mkdir,
-    MakeFile,
-    Lookup,
-    Mode,
-    Bytes,
-}
-
-pub(crate) const ACTS: [(&[u8], Act); 34] = [
+pub(crate) const ACTS: [(&[u8], Act); 22] = [
     (b"case", Act::Begin),
     (b"parse", Act::Path(PathAct::Parse)),
     (b"child", Act::Path(PathAct::Child)),
@@ -98,16 +74,4 @@ pub(crate) const ACTS: [(&[u8], Act); 34] = [
     (b"sink", Act::Sink(SinkAct::Begin)),
     (b"put", Act::Sink(SinkAct::Put)),
     (b"held", Act::Sink(SinkAct::Held)),
-    (b"dir", Act::Image(ImageAct::Dir)),
-    (b"link", Act::Image(ImageAct::Link)),
-    (b"first", Act::Image(ImageAct::First)),
-    (b"same", Act::Image(ImageAct::Same)),
-    (b"image", Act::Image(ImageAct::Write)),
-    (b"pen", Act::Tree(TreeAct::Pen)),
-    (b"counts", Act::Tree(TreeAct::Counts)),
-    (b"mkdir", Act::Tree(TreeAct::Mkdir)),
-    (b"make-file", Act::Tree(TreeAct::MakeFile)),
-    (b"lookup", Act::Tree(TreeAct::Lookup)),
-    (b"mode", Act::Tree(TreeAct::Mode)),
-    (b"bytes", Act::Tree(TreeAct::Bytes)),
 ];

@@ -1,8 +1,6 @@
 //! What one line does, and what it prints.
 use crate::act::{ACTS, Act, FileAct, PathAct, SinkAct};
 use crate::feeds::Feeds;
-use crate::images::Image;
-use crate::trees::Trees;
 use crate::{inputs, paths, sinks};
 use br_path::Files;
 use case_text::{Page, Stopped, Table, found};
@@ -16,8 +14,6 @@ pub(crate) struct Case {
     files: Files,
     feeds: Feeds,
     sink: MemorySink,
-    image: Image,
-    trees: Trees,
 }
 
 impl Table for Case {
@@ -28,8 +24,6 @@ impl Table for Case {
             Act::File(act) => self.file(page, act, text),
             Act::Feed(act) => self.feeds.act(page, &mut self.files, act, text),
             Act::Sink(act) => self.sink(page, act, text),
-            Act::Image(act) => self.image.act(page, act, text),
-            Act::Tree(act) => self.trees.act(page, act, text),
         }
     }
 }
@@ -37,22 +31,17 @@ impl Table for Case {
 impl Case {
     pub(crate) fn new(alloc: Global) -> Result<Case, Stopped> {
         let sink = sinks::sink(alloc, b"0 1")?;
-        let trees = Trees::new(alloc)?;
         Ok(Case {
             alloc,
             files: Files::new(alloc),
             feeds: Feeds::new(alloc),
             sink,
-            image: Image::new(alloc),
-            trees,
         })
     }
 
     fn begin(&mut self) -> Result<(), Stopped> {
         self.files = Files::new(self.alloc);
         self.feeds = Feeds::new(self.alloc);
-        self.image = Image::new(self.alloc);
-        self.trees = Trees::new(self.alloc)?;
         Ok(())
     }
 

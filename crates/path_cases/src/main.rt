@@ -1,4 +1,4 @@
-//! Cases of paths, files, feeds, sinks, images and trees. Each line of standard input is printed, and after it what it gives.
+//! Cases of paths, files, feeds and sinks. Each line of standard input is printed, and after it what it gives.
 //!
 //! `README.md` beside `src` says what each line asks for. A line of any other form, a stream that fails and a call that is out
 //! of memory end the program with status 1; the line is then the last that is printed.
@@ -7,12 +7,10 @@
 mod act;
 mod case;
 mod feeds;
-mod images;
 mod inputs;
 mod paths;
 mod sinks;
 mod text;
-mod trees;
 
 use case::Case;
 use case_text::{Stopped, run};

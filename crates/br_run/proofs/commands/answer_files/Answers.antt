@@ -14,3 +14,6 @@ returns-in-ShowRecursive c = rw c.in-ShowRecursive.is (rw c.as_slice-in-ShowRecu
 
 pub returns-in-ShowRdepends : goal.returns-in-ShowRdepends
 returns-in-ShowRdepends c = rw c.in-ShowRdepends.is (rw c.as_slice-in-ShowRdepends.ensures at c.answer_show-in-ShowRdepends.ensures)
+
+pub returns-in-Build : goal.returns-in-Build
+returns-in-Build c = rw c.in-Build.is c.answer_build.ensures

@@ -1,9 +1,15 @@
-use Rattle.br_run.proofs.Told.{no_menu_words, no_solution_told}
+use Rattle.br_run.specs.Configured.{HasNoSolution, IsConfigFault, no_menu, no_solution, wishes_text}
+use Rattle.br_run.proofs.Told.{Tells-map, told}
+use Rattle.build_report.specs.declared.fault.InputFault.TheVariants.{Menu}
+use Rattle.std.proofs.Common.{subst}
 use Rattle.br_run.proofs.configuration.configuration_of.Goals as goal
 
 pub returns-in-Fault-clause-fault : goal.returns-in-Fault-clause-fault
-returns-in-Fault-clause-fault c = no_menu_words _ _ c.in-Fault.fault (rw c.in-Fault.is at c.in-Err.ensures.fault) c.in_ok-menu_fault_words-in-Fault.ensures
+returns-in-Fault-clause-fault c =
+    told (IsConfigFault c.args.files.now) _ (Menu c.in-Fault.fault) (no_menu c.in-Fault.fault (rw c.in-Fault.is at c.in-Err.ensures.fault)) c.of.ensures
 
-pub returns-in-Err-values_of-clause-fault : goal.returns-in-Err-values_of-clause-fault
-returns-in-Err-values_of-clause-fault c =
-    no_solution_told _ _ c.in_ok-text.text.now _ c.in-Ok.ensures.menu c.in_ok-text.ensures.text c.in-Err-values_of.ensures.fault
+pub returns-in-Err-solution_of-clause-fault : goal.returns-in-Err-solution_of-clause-fault
+returns-in-Err-solution_of-clause-fault c =
+    Tells-map (HasNoSolution c.in-Ok.menu c.in_ok-text.text.now) (IsConfigFault c.args.files.now) _
+    (λ fault names none. no_solution c.in-Ok.menu c.in-Ok.ensures.menu (subst (λ text. HasNoSolution c.in-Ok.menu text fault names) c.in_ok-text.ensures.text none))
+    c.in-Err-solution_of.ensures.fault

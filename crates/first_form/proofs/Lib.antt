@@ -1,6 +1,0 @@
-pub mod Middles
-pub mod Entries
-pub mod PlaceTexts
-pub mod Words
-pub mod FormFiles
-pub mod OneForm

@@ -1,6 +1,0 @@
-use Rattle.std.proofs.Common.{rules}
-use Rattle.first_tree.proofs.Undone.{undone}
-use Rattle.first_tree.proofs.map_tree.MapTree.add_file.Goals as goal
-
-pub returns-in-Err-clause-err : goal.returns-in-Err-clause-err
-returns-in-Err-clause-err c = undone _ _ _ _ c.args.at.now _ c.requires c.in_ok-add_name.ensures.ok c.in-Err.ensures.err (search rules)

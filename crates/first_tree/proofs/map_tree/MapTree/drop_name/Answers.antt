@@ -1,9 +1,0 @@
-use Rattle.br_path.proofs.Maps.{map-remove}
-use Rattle.br_path.proofs.PathOrder.{path_total, path_same}
-use Rattle.first_tree.specs.MapTree.{shown}
-use Rattle.first_tree.proofs.map_tree.MapTree.drop_name.Goals as goal
-
-pub returns : goal.returns
-returns c =
-    let names = map-remove path_total path_same c.args.self.now.names c.remove.new.self c.args.at.now c.remove.ensures.updates.0 in
-    λ i. record { names = names i; labels = (shown c.args.self.now).labels }

@@ -1,4 +1,0 @@
-pub mod Tree
-pub mod Pen
-pub mod Change
-pub mod MapTree
