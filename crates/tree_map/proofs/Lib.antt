@@ -15,3 +15,5 @@ pub mod Tally
 pub mod Carried
 pub mod Shifted
 pub mod Gathered
+pub mod Lacked
+pub mod LaidOver

@@ -1,5 +1,6 @@
 //! Labels and what they stand for.
-ghost use Rattle.std.specs.Prelude.{◌≡◌, ◌++◌, ◌==◌, OnOk, IfOk, is_some, true};
+ghost use Rattle.std.specs.Prelude.{◌≡◌, ◌++◌, ◌==◌, OnOk, IfOk, IfSome, is_some, true, false};
+ghost use Rattle.std.specs.Option.{option_copied};
 ghost use Rattle.std.specs.FinMap as fin;
 ghost use Rattle.std.specs.FinMap.Entries.{where_key};
 ghost use Rattle.std.specs.List.{list_any};
@@ -7,6 +8,7 @@ ghost use Rattle.std.specs.BTreeMap as tree;
 ghost use Rattle.std.specs.BTreeMap.{keys, IsOrdered};
 ghost use Rattle.tree_ops.specs.Tree.{label_cmp, is_used};
 ghost use Rattle.tree_map.specs.Parts.{labels_of, set_back};
+ghost use Rattle.tree_map.specs.Lacking.{clash, is_contents, lacking};
 
 use crate::names::NameTable;
 use br_path::Memory;
@@ -58,6 +60,45 @@ pub(crate) fn labels_over(
     copy_used(&mut pairs, high, names)?;
     copy_used(&mut pairs, low, names)?;
     labels_from(alloc, pairs)
+}
+
+/// Whether two labels' contents are the same.
+fn is_contents(contents: &Contents, other: &Contents) -> bool
+    ensures { result ≡ is_contents contents.now other.now }
+{
+    contents.mode == other.mode && contents.bytes == other.bytes
+}
+
+/// What the label stands for.
+fn contents_of<'a>(labels: &'a BTreeMap<Label, Contents>, label: &Label) -> Option<&'a Contents>
+    ensures { option_copied result ≡ fin.get (labels_of labels.now) label.now }
+{
+    labels.get(label)
+}
+
+/// The labels that stand for something in the high map and for nothing in the low one; nothing where one stands for
+/// something in both, and not the same. The time is that of a look-up for each label of the high map, and of reading what
+/// both have.
+pub(crate) fn labels_lacked(
+    alloc: Global,
+    low: &BTreeMap<Label, Contents>,
+    high: &BTreeMap<Label, Contents>,
+) -> Result<Option<Vec<Label>>, Memory>
+    ensures same { IfOk result (λ found. IfSome found (λ labels. clash is_contents (labels_of low.now) (fin.entries (labels_of high.now)) ≡ false)) }
+    ensures labels { IfOk result (λ found. IfSome found (λ labels. labels.items ≡ lacking (labels_of low.now) (fin.entries (labels_of high.now)))) }
+{
+    let mut labels = Vec::new(alloc);
+    for (label, contents) in high {
+        match contents_of(low, label) {
+            None => labels.push(*label)?,
+            Some(own) => {
+                if !is_contents(own, contents) {
+                    return Ok(None);
+                }
+            }
+        }
+    }
+    Ok(Some(labels))
 }
 
 /// Lets a label stand for what it stood for before, or for nothing. It stands for something now, so that this takes no

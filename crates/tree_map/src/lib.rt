@@ -1,6 +1,7 @@
 //! Trees that are kept as two plain maps.
 #![tactic(auto)]
 
+mod adding;
 mod counts;
 mod labels;
 mod moving;

@@ -1,5 +1,5 @@
 //! The names of a tree, and what they make up.
-ghost use Rattle.std.specs.Prelude.{◌≡◌, ◌<◌, ◌^◌, ◌++◌, ◌⊎◌, All, OnOk, OnErr, IfOk, IfErr, not, is_some, true, false, [], ◌∷◌, length};
+ghost use Rattle.std.specs.Prelude.{◌≡◌, ◌<◌, ◌^◌, ◌++◌, ◌⊎◌, All, OnOk, OnErr, IfOk, IfErr, IfSome, not, is_some, true, false, [], ◌∷◌, length};
 ghost use Rattle.std.specs.FinMap as fin;
 ghost use Rattle.std.specs.FinMap.Entries.{where_key};
 ghost use Rattle.std.specs.List.{list_any, filter_map, sum_by};
@@ -12,6 +12,7 @@ ghost use Rattle.tree_ops.specs.Change.{is_below, relabelled};
 ghost use Rattle.tree_map.specs.Moving.{moves_below};
 ghost use Rattle.tree_map.specs.Parts.{leads_too_far};
 ghost use Rattle.tree_map.specs.NameTable.{names_of, hides, is_label};
+ghost use Rattle.tree_map.specs.Lacking.{clash, is_node, lacking, paths_of};
 
 use crate::counts::{count_down, count_moved, count_up};
 use crate::moving::{Move, moves_listed};
@@ -219,6 +220,30 @@ impl NameTable {
         table_of(alloc, pairs)
     }
 
+    /// The paths at which a name of the high table stands and none of this one; nothing where both have a name and not the
+    /// same. The time is that of a look-up for each name of the high table.
+    pub(crate) fn lacked<'a>(
+        &self,
+        alloc: Global,
+        high: &'a NameTable,
+    ) -> Result<Option<Vec<&'a Path>>, Memory>
+        ensures same { IfOk result (λ found. IfSome found (λ paths. clash is_node self.now (fin.entries high.now) ≡ false)) }
+        ensures paths { IfOk result (λ found. IfSome found (λ paths. paths_of paths.items ≡ lacking self.now (fin.entries high.now))) }
+    {
+        let mut paths = Vec::new(alloc);
+        for (at, node) in &high.names {
+            match self.get(at) {
+                None => paths.push(at)?,
+                Some(own) => {
+                    if !is_node(own, node) {
+                        return Ok(None);
+                    }
+                }
+            }
+        }
+        Ok(Some(paths))
+    }
+
     /// Where each name below the path moves to with it. The time is that of a look-up, and of one step for each of them.
     pub(crate) fn moves(
         &self,
@@ -256,6 +281,20 @@ fn is_leaf(node: Option<&Node>) -> bool
     match node {
         Some(Node::Link(_)) | Some(Node::File(_)) => true,
         Some(Node::Dir(_)) | None => false,
+    }
+}
+
+/// Whether two nodes are the same.
+fn is_node(node: &Node, other: &Node) -> bool
+    ensures { result ≡ is_node node.now other.now }
+{
+    match (node, other) {
+        (Node::Dir(mode), Node::Dir(own)) => mode == own,
+        (Node::Link(text), Node::Link(own)) => text == own,
+        (Node::File(label), Node::File(own)) => {
+            label.task == own.task && label.number == own.number
+        }
+        _ => false,
     }
 }
 

@@ -16,8 +16,11 @@ ghost use Rattle.tree_ops.specs.Change.{is_path};
 ghost use Rattle.tree_ops.specs.Pen.{counts_of, with_counts, within_limits};
 ghost use Rattle.tree_ops.specs.Tree.{Tree, IsTree};
 ghost use Rattle.tree_map.specs.Moving.{counts_moved};
+ghost use Rattle.tree_map.specs.Lacking.{AreLacking, clash, is_node, lacking, paths_of};
+ghost use Rattle.tree_ops.specs.Tree.{laid, over};
 
-use crate::labels::{labels_again, labels_over, set_back};
+use crate::adding::{add_lacked_labels, measure_paths};
+use crate::labels::{labels_again, labels_lacked, labels_over, set_back};
 use crate::names::NameTable;
 use crate::paths::{is_below, is_path};
 use br_path::{Bytes, Memory, Path};
@@ -348,7 +351,62 @@ impl MapTree {
         pen.counted_anew(self.names.measure(), names.measure())
     }
 
-    pub(crate) fn populate(
+    /// Adds the names and labels of another tree that this one lacks. After a refusal nothing is changed.
+    fn add_lacked(
+        &mut self,
+        from: &MapTree,
+        paths: &[&Path],
+        labels: &[Label],
+    ) -> Result<(), Memory>
+        requires low { IsTree (shown self.old) }
+        requires high { IsTree (shown from.now) }
+        requires lacking { AreLacking (shown self.old) (shown from.now) (paths_of paths.now) labels.now }
+        ensures ok { OnOk result (shown self.new ≡ over (shown self.old) (shown from.now)) }
+        ensures err { OnErr result (shown self.new ≡ shown self.old) }
+    {
+        self.names.add_lacked(&from.names, paths)?;
+        match add_lacked_labels(&mut self.labels, &from.labels, labels) {
+            Ok(()) => Ok(()),
+            Err(memory) => {
+                self.names.remove_all(paths);
+                Err(memory)
+            }
+        }
+    }
+
+    /// The pen after another tree's names at these paths are added, unless a count passes its limit.
+    fn counted_lacked(&self, from: &MapTree, paths: &[&Path], pen: &Pen) -> Option<Pen>
+        requires same { clash is_node (shown self.now).names (fin.entries (shown from.now).names) ≡ false }
+        requires lacked { paths_of paths.now ≡ lacking (shown self.now).names (fin.entries (shown from.now).names) }
+        ensures { (new : Tree) → new.names ≡ laid (shown self.now).names (shown from.now).names → result ≡ within_limits (with_counts pen.now (recounted (counts_of pen.now) (shown self.now) new)) }
+    {
+        pen.counted_anew((0, 0), measure_paths(paths))
+    }
+
+    /// Lays another tree over this one where nothing of it stands against this one: what this one lacks is added.
+    fn populate_lacked(
+        &mut self,
+        from: &MapTree,
+        paths: &[&Path],
+        labels: &[Label],
+        pen: &mut Pen,
+    ) -> Result<(), ChangeFault>
+        requires low { IsTree (shown self.old) }
+        requires high { IsTree (shown from.now) }
+        requires lacking { AreLacking (shown self.old) (shown from.now) (paths_of paths.now) labels.now }
+        ensures { IsChange uncounted (Populate (shown from.now)) (shown self.old, pen.old) result (shown self.new, pen.new) }
+    {
+        let after = match self.counted_lacked(from, paths, pen) {
+            None => return Err(ChangeFault::NoSpace),
+            Some(after) => after,
+        };
+        self.add_lacked(from, paths, labels)?;
+        *pen = after;
+        Ok(())
+    }
+
+    /// Lays another tree over this one, whatever stands in both: all names and labels are put together anew.
+    fn populate_anew(
         &mut self,
         alloc: Global,
         from: &MapTree,
@@ -366,6 +424,27 @@ impl MapTree {
         self.labels = labels;
         *pen = after;
         Ok(())
+    }
+
+    pub(crate) fn populate(
+        &mut self,
+        alloc: Global,
+        from: &MapTree,
+        pen: &mut Pen,
+    ) -> Result<(), ChangeFault>
+        requires low { IsTree (shown self.old) }
+        requires high { IsTree (shown from.now) }
+        ensures { IsChange uncounted (Populate (shown from.now)) (shown self.old, pen.old) result (shown self.new, pen.new) }
+    {
+        let paths = match self.names.lacked(alloc, &from.names)? {
+            None => return self.populate_anew(alloc, from, pen),
+            Some(paths) => paths,
+        };
+        let labels = match labels_lacked(alloc, &self.labels, &from.labels)? {
+            None => return self.populate_anew(alloc, from, pen),
+            Some(labels) => labels,
+        };
+        self.populate_lacked(from, paths.as_slice(), labels.as_slice(), pen)
     }
 
     /// Refuses a move, but for the lengths of paths and the limits.

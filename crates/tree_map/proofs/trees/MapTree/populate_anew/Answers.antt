@@ -7,7 +7,7 @@ use Rattle.tree_map.specs.NameTable.{NameMap}
 use Rattle.tree_map.specs.Parts.{shown, labels_of}
 use Rattle.tree_map.proofs.Made.{populated-ok, populated-full}
 use Rattle.tree_map.proofs.Listed.{kept-listed}
-use Rattle.tree_map.proofs.trees.MapTree.populate.Goals as goal
+use Rattle.tree_map.proofs.trees.MapTree.populate_anew.Goals as goal
 
 pub returns-in-None : goal.returns-in-None
 returns-in-None c =
