@@ -3,8 +3,8 @@ import re
 
 MOST_COST = 1 << 20
 CALL = re.compile(r'(subst|strip|addprefix|addsuffix|filter-out|filter|patsubst|sort|firstword|if|foreach|call)[ \t]+')
-LEAST_ARGUMENTS = {'subst': 3, 'patsubst': 3, 'foreach': 3, 'addprefix': 2, 'addsuffix': 2, 'filter': 2, 'filter-out': 2,
-                   'if': 2, 'call': 2}
+LEAST_ARGUMENTS = {'subst': 3, 'patsubst': 3, 'foreach': 3, 'addprefix': 2, 'addsuffix': 2, 'filter': 2,
+                   'filter-out': 2, 'if': 2, 'call': 2}
 MOST_ARGUMENTS = {'strip': 1, 'sort': 1, 'firstword': 1, 'if': 3, 'call': None, 'subst': 3, 'patsubst': 3, 'foreach': 3}
 
 

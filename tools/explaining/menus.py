@@ -20,7 +20,7 @@ class Said:
 
 
 class Block:
-    """An entry, a menu, a choice, a condition or a comment, with the lines that belong to it and the blocks round it."""
+    """An entry, a menu, a choice, a condition or a comment, with its lines and the blocks round it."""
 
     def __init__(self, head, around):
         self.head, self.around, self.lines = head, around, []

@@ -1,4 +1,4 @@
-"""The recipes, read for where a command or a dependency stands: more simply than the program, and past what is wrong there."""
+"""The recipes, read for where a command or a dependency stands: more simply than the program, and past faults."""
 import re
 
 from explaining import feed

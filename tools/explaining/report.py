@@ -8,7 +8,7 @@ MOST_ALIKE = 8
 
 
 class Asked:
-    """What is known beside a report: the program, its words and its status, and why standard output can't be written."""
+    """What is known beside a report: the program, its words and status, and why standard output can't be written."""
 
     def __init__(self, program=None, words=None, status=None, cannot_write=None):
         self.program, self.words, self.status, self.cannot_write = program, words, status, cannot_write
@@ -54,7 +54,7 @@ def row_of(rows, line):
 def of_line(line, row, names, asked, said):
     """The explanation of one line: what was found, and once for lines alike what they mean and what to do."""
     tell = told.FAULTS.get(row.words[1]) if row.words[0] == 'fault' else told.TOLD[row.words[0]]
-    facts = tell(names, asked) if tell else []
+    facts = facts_of(tell, names, asked) if tell else []
     means, to_do = row.means, row.to_do
     if row.words[0] == 'failed':
         means, to_do = pages.reasons().get(names['REASON'], (means, to_do))
@@ -63,6 +63,14 @@ def of_line(line, row, names, asked, said):
         said.add((means, to_do))
         sentences = ['It means: ' + pages.filled(means, names), 'To do: ' + pages.filled(to_do, names)]
     return ['br: ' + visible(line)] + ['    ' + visible(text) for text in facts + sentences]
+
+
+def facts_of(tell, names, asked):
+    """What is found for a line; nothing if the line or the files are other than a report of them can have them."""
+    try:
+        return tell(names, asked)
+    except (OSError, ValueError, LookupError, RecursionError):
+        return []
 
 
 def nothing_written(asked):

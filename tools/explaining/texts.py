@@ -58,7 +58,7 @@ def line_at(path, number):
 
 
 def shortest(start, steps):
-    """The shortest walk from a name back to it, as a list of (name, step); `steps` gives (next name, step) of a name."""
+    """The shortest walk from a name back to it: each a name, a step and the next; `steps` gives (next name, step)."""
     come, waiting = {}, [start]
     for name in waiting:
         for following, step in steps(name):

@@ -11,6 +11,7 @@ from explaining.recipes import LISTS, Recipes, front_of
 from explaining.texts import decoded, encoded, line_at, placed, shortest, text_at
 
 MOST = 8
+REFERENCE = re.compile(r'\$[({]([^(){}$, \t\n]+)[)}]')
 PACKAGE = re.compile(r'(?!host-)[a-z0-9][a-z0-9_.-]*')
 
 
@@ -208,10 +209,16 @@ def expand(names, asked):
     recipes = recipes_of(asked)
     if names['VARIABLE'] in ('ifeq', 'ifneq', 'ifdef', 'ifndef'):
         return some(conditions('package/%s/%s.mk' % (names['P'], names['P'])))
-    found = []
-    for name in (names['VARIABLE'], names.get('NAME')):
-        found += [line for line in of_variable(recipes, name) if line not in found]
-    return some(found)
+    own, walk = of_variable(recipes, names['VARIABLE']), asking(recipes, names.get('NAME'))
+    return some((own if names['VARIABLE'] != names.get('NAME') else []) + walk)
+
+
+def asking(recipes, name):
+    """How the value of a variable asks for itself."""
+    def steps(variable):
+        pieces = recipes.settings(variable)
+        return [(asked, piece) for piece in pieces for asked in REFERENCE.findall(piece.text) if piece.path]
+    return ['%s asks for %s, by %s' % (one, other, of_piece(piece)) for one, piece, other in shortest(name, steps)]
 
 
 def conditions(recipe_path):
@@ -222,7 +229,9 @@ def conditions(recipe_path):
 
 
 def patch_file(names, asked):
-    return ['package/%s has %s' % tuple(names['PATH'].split('/')[1:3])]
+    folder = os.path.dirname(names['PATH'])
+    found = sorted(name for name in os.listdir(encoded(folder)) if name.endswith(b'.patch'))
+    return some(['%s/%s is there' % (folder, decoded(name)) for name in found])
 
 
 def no_recipe(names, asked):
@@ -249,7 +258,8 @@ def not_selected(names, asked):
 
 def cycle(names, asked):
     walk = shortest(names['TASK'], recipes_of(asked).needs)
-    return ['%s needs %s%s' % (task, needed, ', by ' + of_piece(piece) if piece else '') for task, piece, needed in walk]
+    return ['%s needs %s%s' % (task, needed, ', by ' + of_piece(piece) if piece else '')
+            for task, piece, needed in walk]
 
 
 def no_package(names, asked):
