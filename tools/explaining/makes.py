@@ -130,28 +130,35 @@ class Expansion:
         return ' '.join(made)
 
     def do_subst(self, old, new, text):
+        """Each F in a text becomes T."""
         if not old:
             raise NoValue('subst of an empty text')
         return text.replace(old, new)
 
     def do_strip(self, text):
+        """The words with one space between two."""
         return ' '.join(words_of(text))
 
     def do_addprefix(self, prefix, text):
+        """A text before each word."""
         return ' '.join(prefix + word for word in words_of(text))
 
     def do_addsuffix(self, suffix, text):
+        """A text behind each word."""
         return ' '.join(word + suffix for word in words_of(text))
 
     def do_filter(self, patterns, text):
+        """The words that match."""
         patterns = words_of(patterns)
         return ' '.join(word for word in words_of(text) if any(matched(one, word) is not None for one in patterns))
 
     def do_filter_out(self, patterns, text):
+        """The words that do not match."""
         patterns = words_of(patterns)
         return ' '.join(word for word in words_of(text) if all(matched(one, word) is None for one in patterns))
 
     def do_patsubst(self, pattern, new, text):
+        """Another word for each that matches."""
         made = []
         for word in words_of(text):
             stem = matched(pattern, word)
@@ -159,12 +166,15 @@ class Expansion:
         return ' '.join(made)
 
     def do_sort(self, text):
+        """The words in order, each once."""
         return ' '.join(sorted(set(words_of(text))))
 
     def do_firstword(self, text):
+        """The first word."""
         return (words_of(text) or [''])[0]
 
     def do_call(self, name, text, *_):
+        """`qstrip`, which is all that is called."""
         if name != 'qstrip':
             raise NoValue('call of %s' % name)
         return ' '.join(words_of(text.replace('"', '')))

@@ -145,8 +145,3 @@ def behind_help(lines, at):
                 break
         at += 1
     return at
-
-
-def values():
-    """What `.config` says, as its lines."""
-    return [line for line in (text_at('.config') or '').split('\n') if line and line[0] != '#']

@@ -28,6 +28,7 @@ class Variable:
         self.simple, self.pieces = simple, pieces
 
     def text(self):
+        """Its whole text."""
         return ''.join(piece.before + piece.text for piece in self.pieces)
 
 
@@ -35,7 +36,7 @@ class Command:
     """A line that a step runs: the variable and the piece that it stands in, and what it is after expansion."""
 
     def __init__(self, variable, piece, text):
-        self.variable, self.piece, self.text = variable, piece, text.lstrip(' \t@-')
+        self.variable, self.piece, self.text = variable, piece, text.lstrip(' \t@-').rstrip(' \t')
 
 
 def front_of(package):
@@ -83,6 +84,7 @@ class Recipes:
             self.read(path, name)
 
     def set_simple(self, name, text):
+        """Sets a variable by a text that is expanded already."""
         self.variables[name] = Variable(True, [Piece(text, None, 0, '')])
 
     def expanded(self, text, local=()):
@@ -100,11 +102,11 @@ class Recipes:
             if define is not None:
                 define = self.in_define(define, words, Piece(line, path, number, line.strip()))
                 continue
-            shown, line = line.strip(), without_comment(line).strip(' \t').replace('\\#', '#')
+            shown, line = line.strip(), without_comment(line).lstrip(' \t').replace('\\#', '#')
             is_taken = all(one == 'taken' for one in taken)
             if words[:1] == ['define'] and len(words) > 1:
                 define = (words[1] if is_taken else None, [])
-            elif not self.branch(line, taken) and is_taken:
+            elif not self.branch(line.rstrip(' \t'), taken) and is_taken:
                 self.take(line, Piece('', path, number, shown), name)
 
     def in_define(self, define, words, piece):
@@ -142,7 +144,7 @@ class Recipes:
 
     def take(self, line, piece, name):
         """Takes up a line that sets a variable or makes a package."""
-        if line in ('$(eval $(generic-package))', '$(eval $(host-generic-package))'):
+        if line.rstrip(' \t') in ('$(eval $(generic-package))', '$(eval $(host-generic-package))'):
             made = 'host-' * line.startswith('$(eval $(host') + name
             self.made[made] = piece.path
             front = front_of(made)

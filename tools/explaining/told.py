@@ -80,6 +80,7 @@ def alike(name, names):
 # The words and the files.
 
 def words(names, asked):
+    """The word that does not fit, and what the words are."""
     place, given = int(names['K']), asked.words
     found = []
     if given is not None and place < len(given):
@@ -90,11 +91,13 @@ def words(names, asked):
 
 
 def unread(_, asked):
+    """The first path that can't be read, and why."""
     found = feed.first_unreadable()
     return ['%s: %s' % found] if found else ['all files can be read now; they were changed since']
 
 
 def path(names, asked):
+    """The file that has no path, and what is wrong with its name."""
     files = feed.readable()
     if int(names['K']) >= len(files):
         return ['there are %d files now; they were changed since' % len(files)]
@@ -105,6 +108,7 @@ def path(names, asked):
 
 
 def twice(names, asked):
+    """The files at, above and below the path."""
     own = names['PATH']
     found = [name for name, _ in feed.readable()
              if name == own or name.startswith(own + '/') or own.startswith(name + '/')]
@@ -112,17 +116,20 @@ def twice(names, asked):
 
 
 def count(_, asked):
+    """How many files each folder has."""
     tops = [name.split('/')[0] for name, _ in feed.readable()]
     return ['%s: %d files' % (top, tops.count(top)) for top in ('package', 'board')]
 
 
 def size(_, asked):
+    """How large the files are, and the largest."""
     files = sorted(feed.readable(), key=lambda file: -file[1])
     total = sum(size for _, size in files)
     return ['all files: %d bytes' % total] + ['%s: %d bytes' % file for file in files[:3]]
 
 
 def sinks(asked):
+    """Which of standard output and the image can't be written, and why."""
     if asked.cannot_write:
         return ['standard output: ' + asked.cannot_write]
     if os.path.isdir('rootfs.img'):
@@ -139,6 +146,7 @@ def sinks(asked):
 # The configuration.
 
 def config(names, asked):
+    """The line of the configuration, and other entries of its symbol."""
     if 'FILE' not in names:
         return ['the current folder is ' + os.getcwd()]
     place, number = names['FILE'], int(names['LINE'])
@@ -146,16 +154,12 @@ def config(names, asked):
     menu = Menu()
     symbols = [entry.head.words[0] for entry in menu.entries if near(entry, place, number)]
     others = [entry for entry in menu.entries_of(symbols[0]) if not near(entry, place, number)] if symbols else []
-    return found + [line for entry in some_entries(others) for line in entry_lines(entry)]
+    return found + [line for entry in others[:3] for line in entry_lines(entry)]
 
 
 def near(entry, place, number):
     """Whether the line at a place is the entry's, or one of its lines."""
     return any((line.path, line.number) == (place, number) for line in [entry.head] + entry.lines)
-
-
-def some_entries(entries):
-    return entries[:3]
 
 
 def entry_lines(entry):
@@ -164,26 +168,31 @@ def entry_lines(entry):
 
 
 def wish(names, asked):
+    """The line of `.config`."""
     return line_at('.config', int(names['LINE']))
 
 
 def selected_wrongly(names, asked):
+    """The selects that name the symbol, and its entries."""
     menu = Menu()
     selects = [line for _, line in menu.selects_of(names['S'])]
     return some(of_said(selects) + [line for entry in menu.entries_of(names['S']) for line in of_said([entry.head])])
 
 
 def config_cycle(names, asked):
+    """How the symbol asks for itself."""
     walk = shortest(names['S'], Menu().names)
     return ['%s asks for %s, by %s' % (symbol, asked_for, of_said([line])[0]) for symbol, line, asked_for in walk]
 
 
 def number(names, asked):
+    """What gives the number."""
     defaults = [line for entry in Menu().entries_of(names['S']) for line in [entry.head] + entry.of_kind('default')]
     return some(wishes_of(names['S']) + of_said(defaults))
 
 
 def selected(names, asked):
+    """What selects the symbol, and what it depends on."""
     menu = Menu()
     selects = [line for _, line in menu.selects_of(names['S'])]
     depends = [line for entry in menu.entries_of(names['S']) for line in entry.dependencies()]
@@ -194,6 +203,7 @@ def selected(names, asked):
 # The recipes.
 
 def wrong_name(names, asked):
+    """The name, or the other packages with these variables."""
     name = names['PATH'].split('/')[1]
     if not PACKAGE.fullmatch(name) or name in ('host', 'target', 'staging', 'build'):
         return ['the folder is package/%s' % name]
@@ -202,10 +212,12 @@ def wrong_name(names, asked):
 
 
 def recipe(names, asked):
+    """The line of the recipe."""
     return line_at(names['PATH'], int(names['LINE']))
 
 
 def expand(names, asked):
+    """The lines that set the variable, and how it asks for itself."""
     recipes = recipes_of(asked)
     if names['VARIABLE'] in ('ifeq', 'ifneq', 'ifdef', 'ifndef'):
         return some(conditions('package/%s/%s.mk' % (names['P'], names['P'])))
@@ -216,6 +228,7 @@ def expand(names, asked):
 def asking(recipes, name):
     """How the value of a variable asks for itself."""
     def steps(variable):
+        """The variables that the text of a variable asks for."""
         pieces = recipes.settings(variable)
         return [(asked, piece) for piece in pieces for asked in REFERENCE.findall(piece.text) if piece.path]
     return ['%s asks for %s, by %s' % (one, other, of_piece(piece)) for one, piece, other in shortest(name, steps)]
@@ -229,12 +242,14 @@ def conditions(recipe_path):
 
 
 def patch_file(names, asked):
+    """The patches that lie there."""
     folder = os.path.dirname(names['PATH'])
     found = sorted(name for name in os.listdir(encoded(folder)) if name.endswith(b'.patch'))
     return some(['%s/%s is there' % (folder, decoded(name)) for name in found])
 
 
 def no_recipe(names, asked):
+    """Whether the recipe is there, and what sets the symbol."""
     at = 'package/%s/%s.mk' % (names['P'], names['P'])
     found = '%s is there, and has no line that makes the package' if os.path.isfile(at) else '%s is not there'
     return [found % at] + wishes_of(symbol_of(names['P']))
@@ -247,22 +262,26 @@ def listed_by(names, asked):
 
 
 def unknown_dependency(names, asked):
+    """The line that lists the package, and packages of like names."""
     return listed_by(names, asked) + alike(names['D'], recipes_of(asked).made)
 
 
 def not_selected(names, asked):
+    """The line that lists the package, and the entry of the package's symbol."""
     entries = Menu().entries_of(symbol_of(names['D']))
     symbol = [line for entry in entries for line in of_said([entry.head] + entry.dependencies())]
     return listed_by(names, asked) + some(symbol or ['no line declares %s' % symbol_of(names['D'])])
 
 
 def cycle(names, asked):
+    """How the task needs itself."""
     walk = shortest(names['TASK'], recipes_of(asked).needs)
     return ['%s needs %s%s' % (task, needed, ', by ' + of_piece(piece) if piece else '')
             for task, piece, needed in walk]
 
 
 def no_package(names, asked):
+    """The recipe that makes the package, and what its symbol is."""
     package, recipes = names['P'], recipes_of(asked)
     if package not in recipes.made:
         return ['no recipe makes it'] + alike(package, recipes.made)
@@ -273,6 +292,7 @@ def no_package(names, asked):
 # A build.
 
 def failed(names, asked):
+    """The line of the recipe that failed."""
     package, step, line = names['P'], names['STEP'], int(names['LINE'])
     if line == 0:
         return ['the copy of package/%s/src' % package.replace('host-', '', 1) if step == 'extract'
@@ -286,6 +306,7 @@ def failed(names, asked):
 
 
 def skipped(names, asked):
+    """The line that lists what is not built."""
     recipes = recipes_of(asked)
     needs = [need for part in (':prep', ':make') for need in recipes.needs(names['P'] + part)]
     pieces = [piece for task, piece in needs if task == names['TASK'] and piece]
@@ -293,6 +314,7 @@ def skipped(names, asked):
 
 
 def overwrite(names, asked):
+    """The lines of each package that name the path."""
     found = []
     for package in names['P1,P2'].split(','):
         lines = writing(package, names['AREA'], names['PATH'], recipes_of(asked))
