@@ -72,11 +72,12 @@ make_path files mode (Readable task walk) = ensure_folders files (in_readable ta
 abbrev pub but_last : Names → Names
 but_last names = take (length names - 1) names
 
--- the folders above an operand; those above something of the input are there
-abbrev pub make_parents : FileMap → Operand → Program (Unit {0})
-make_parents files (Input path) = Done tt
-make_parents files (Place area walk) = ensure_folders files (in_tree area) 493 [] (but_last (components walk))
-make_parents files (Readable task walk) = ensure_folders files (in_readable task) 493 [] (but_last (components walk))
+-- the folders above an operand, by whether its last component is `.`; what stands in the input before one is a folder, and those above
+-- something of the input are there
+abbrev pub make_parents : FileMap → Bool → Operand → Program (Unit {0})
+make_parents files dotted (Input path) = choose dotted (input_folder (input_kind files path)) (Done tt)
+make_parents files dotted (Place area walk) = ensure_folders files (in_tree area) 493 [] (but_last (components walk))
+make_parents files dotted (Readable task walk) = ensure_folders files (in_readable task) 493 [] (but_last (components walk))
 
 -- mkdir of one word
 abbrev pub make_folder : FileMap → ℕ → List ℕ → Program (Unit {0})

@@ -70,21 +70,29 @@ folder_there world files (Ok place) = if is_dir (kind_at world files place) then
 abbrev pub onto : Spot → Program Goal
 onto place = Done (Onto place)
 
+abbrev pub is_dotted : Option (List ℕ) → Bool
+is_dotted None = false
+is_dotted (Some name) = is_dots name
+
+-- the last component of a word is `.` or `..`
+abbrev pub ends_in_dots : List ℕ → Bool
+ends_in_dots word = is_dotted (last_of (components word))
+
 -- the place of the last operand itself, after the folders above it where they are asked for
-abbrev pub goal_at_place : FileMap → Bool → Operand → Program Goal
-goal_at_place files parents operand =
-    choose parents (make_parents files operand) (Done tt) >>= λ _. resolve operand false >>= onto
+abbrev pub goal_at_place : FileMap → Bool → Bool → Operand → Program Goal
+goal_at_place files parents dotted operand =
+    choose parents (make_parents files dotted operand) (Done tt) >>= λ _. resolve operand false >>= onto
 
 -- into the folder that the last operand leads to; else, for one source alone, onto its place
-abbrev pub goal_of : FileMap → Bool → ℕ → Operand → Option Spot → Program Goal
-goal_of files parents sources operand (Some folder) = Done (Into folder)
-goal_of files parents sources operand None = choose (nat_le 2 sources) (Refuse (for_change NotDir)) (goal_at_place files parents operand)
+abbrev pub goal_of : FileMap → Bool → ℕ → Bool → Operand → Option Spot → Program Goal
+goal_of files parents sources dotted operand (Some folder) = Done (Into folder)
+goal_of files parents sources dotted operand None = choose (nat_le 2 sources) (Refuse (for_change NotDir)) (goal_at_place files parents dotted operand)
 
 abbrev pub last_goal : FileMap → Bool → ℕ → List ℕ → Program Goal
 last_goal files parents sources word =
     read files word >>= λ operand.
     Look >>= λ world.
-    goal_of files parents sources operand (folder_there world files (spot_of world true operand))
+    goal_of files parents sources (ends_in_dots word) operand (folder_there world files (spot_of world true operand))
 
 abbrev pub into : Spot → Option Kind → Program Goal
 into folder None = Refuse (for_change Absent)

@@ -92,20 +92,26 @@ pub(crate) fn make_path<T: TreeOps>(
     }
 }
 
-/// The folders above an operand. Those above something of the input are there.
+/// The folders above an operand, by whether its last component is `.`. Those above something of the input are there.
 pub(crate) fn make_parents<T: TreeOps>(
     alloc: Global,
     world: &mut World<T>,
     files: &Files,
+    dotted: bool,
     operand: &Operand,
 ) -> Result<(), CommandError>
     requires walk { HasWalk operand.now }
     requires held { IsHeldWorld T.tree T.sealed world.old }
-    ensures ran { Ran (run (folders.make_parents files.now operand.now) (world_data T.tree world.old)) result (world_data T.tree world.new) }
+    ensures ran { Ran (run (folders.make_parents files.now dotted operand.now) (world_data T.tree world.old)) result (world_data T.tree world.new) }
     ensures held { IsHeldWorld T.tree T.sealed world.new }
 {
     match operand {
-        Operand::Input(_) => Ok(()),
+        Operand::Input(path) => {
+            if dotted {
+                return input_folder(input_kind(files, path));
+            }
+            Ok(())
+        }
         Operand::Place { area, walk } => {
             let names = components(alloc, walk.as_slice())?;
             ensure_folders(

@@ -125,8 +125,28 @@ pub(crate) fn last_goal<T: TreeOps>(
     ensures held { IsHeldWorld T.tree T.sealed world.new }
 {
     let operand = read(alloc, world, files, word)?;
+    let dotted = ends_in_dots(alloc, word)?;
     let folder = folder_there(alloc, world, files, &operand)?;
-    goal_of(alloc, world, files, parents, sources, &operand, folder)
+    goal_of(
+        alloc, world, files, parents, sources, dotted, &operand, folder,
+    )
+}
+
+/// Whether the last component of a word is `.` or `..`.
+fn ends_in_dots(alloc: Global, word: &[u8]) -> Result<bool, Memory>
+    ensures { IfOk result (λ dotted. dotted ≡ goals.ends_in_dots word.now) }
+{
+    let names = components(alloc, word)?;
+    Ok(is_dotted(last_of(names.items.as_slice())))
+}
+
+fn is_dotted(name: Option<&Bytes>) -> bool
+    ensures { result ≡ goals.is_dotted (option_copied name.entry) }
+{
+    match name {
+        None => false,
+        Some(name) => is_dots(name.as_slice()),
+    }
 }
 
 /// Into the folder; without one, onto the place of the operand, for one source alone.
@@ -136,12 +156,13 @@ fn goal_of<T: TreeOps>(
     files: &Files,
     parents: bool,
     sources: usize,
+    dotted: bool,
     operand: &Operand,
     folder: Option<Spot>,
 ) -> Result<Goal, CommandError>
     requires walk { HasWalk operand.now }
     requires held { IsHeldWorld T.tree T.sealed world.old }
-    ensures ran { Ran (run (goals.goal_of files.now parents sources operand.now folder) (world_data T.tree world.old)) result (world_data T.tree world.new) }
+    ensures ran { Ran (run (goals.goal_of files.now parents sources dotted operand.now folder) (world_data T.tree world.old)) result (world_data T.tree world.new) }
     ensures held { IsHeldWorld T.tree T.sealed world.new }
 {
     match folder {
@@ -150,7 +171,7 @@ fn goal_of<T: TreeOps>(
             if 2 <= sources {
                 return Err(error_of(ChangeFault::NotDir));
             }
-            goal_at_place(alloc, world, files, parents, operand)
+            goal_at_place(alloc, world, files, parents, dotted, operand)
         }
     }
 }
@@ -188,14 +209,15 @@ fn goal_at_place<T: TreeOps>(
     world: &mut World<T>,
     files: &Files,
     parents: bool,
+    dotted: bool,
     operand: &Operand,
 ) -> Result<Goal, CommandError>
     requires walk { HasWalk operand.now }
     requires held { IsHeldWorld T.tree T.sealed world.old }
-    ensures ran { Ran (run (goals.goal_at_place files.now parents operand.now) (world_data T.tree world.old)) result (world_data T.tree world.new) }
+    ensures ran { Ran (run (goals.goal_at_place files.now parents dotted operand.now) (world_data T.tree world.old)) result (world_data T.tree world.new) }
     ensures held { IsHeldWorld T.tree T.sealed world.new }
 {
-    parents_first(alloc, world, files, parents, operand)?;
+    parents_first(alloc, world, files, parents, dotted, operand)?;
     let place = resolve(alloc, world, operand, false)?;
     Ok(Goal::Onto(place))
 }
@@ -206,17 +228,18 @@ fn parents_first<T: TreeOps>(
     world: &mut World<T>,
     files: &Files,
     parents: bool,
+    dotted: bool,
     operand: &Operand,
 ) -> Result<(), CommandError>
     requires walk { HasWalk operand.now }
     requires held { IsHeldWorld T.tree T.sealed world.old }
-    ensures ran { Ran (run (choose parents (folders.make_parents files.now operand.now) (Done tt)) (world_data T.tree world.old)) result (world_data T.tree world.new) }
+    ensures ran { Ran (run (choose parents (folders.make_parents files.now dotted operand.now) (Done tt)) (world_data T.tree world.old)) result (world_data T.tree world.new) }
     ensures held { IsHeldWorld T.tree T.sealed world.new }
 {
     if !parents {
         return Ok(());
     }
-    make_parents(alloc, world, files, operand)
+    make_parents(alloc, world, files, dotted, operand)
 }
 
 /// Into the folder that a word names, which is made first if that is asked for.
