@@ -18,11 +18,24 @@ use tree_ops::TreeOps;
 use tree_worlds::{Trees, World};
 
 /// The trees with which a make began, for what it wrote.
-#[derive(Drop)]
 pub(crate) struct Began<T> {
     host: T,
     staging: T,
     target: T,
+}
+
+// A proof then has one call at each place that lets the trees go, and not one for each of them.
+impl<T: Drop> Drop for Began<T> {
+    fn drop(self) {
+        let Began {
+            host,
+            staging,
+            target,
+        } = self;
+        drop(host);
+        drop(staging);
+        drop(target);
+    }
 }
 
 impl<T: TreeOps> Began<T> {

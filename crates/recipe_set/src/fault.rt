@@ -19,7 +19,7 @@ use thiserror::Error;
 /// 7. `TooManyPackages`;
 /// 8. `Expand` of an install setting, a hook list, a hook or a command variable;
 /// 9. `Cycle`.
-#[derive(Debug, Drop, Error)]
+#[derive(Debug, Error)]
 pub enum PlanFault {
     /// A recipe, by its path, whose folder has no name of a package, or one whose variables are those of an earlier recipe.
     #[error("the folder's name is no name of a package, or stands for the same variables as an earlier one")]
@@ -57,6 +57,28 @@ pub enum PlanFault {
     /// Want of memory.
     #[error("no memory")]
     Memory,
+}
+
+// A proof then has one call at each place that lets a fault go, and not a walk of its forms.
+impl Drop for PlanFault {
+    fn drop(self) {
+        match self {
+            PlanFault::WrongName(_)
+            | PlanFault::Recipe(_, _)
+            | PlanFault::Expand {
+                package: _,
+                variable: _,
+                fault: _,
+            }
+            | PlanFault::PatchFile(_)
+            | PlanFault::NoRecipe(_)
+            | PlanFault::UnknownDependency(_, _)
+            | PlanFault::NotSelected(_, _)
+            | PlanFault::TooManyPackages
+            | PlanFault::Cycle(_)
+            | PlanFault::Memory => {}
+        }
+    }
 }
 
 impl From<Memory> for PlanFault {
