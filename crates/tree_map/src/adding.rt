@@ -10,9 +10,10 @@ ghost use Rattle.tree_map.specs.Lacking.{lacking, paths_of, put_at, with_keys, w
 ghost use Rattle.tree_map.specs.Parts.{labels_of};
 
 use crate::names::NameTable;
+use crate::shared::SharedContents;
 use br_path::{Memory, Path};
 use std::collections::BTreeMap;
-use tree_ops::{Contents, Label, rooted_length};
+use tree_ops::{Label, rooted_length};
 
 impl NameTable {
     /// Puts what stands at a path of the high table there too. After a refusal nothing is changed.
@@ -75,8 +76,8 @@ pub(crate) fn measure_paths(paths: &[&Path]) -> (usize, u128)
 
 /// Lets a label stand for what it stands for in the high map. After a refusal nothing is changed.
 fn put_label_from(
-    labels: &mut BTreeMap<Label, Contents>,
-    high: &BTreeMap<Label, Contents>,
+    labels: &mut BTreeMap<Label, SharedContents>,
+    high: &BTreeMap<Label, SharedContents>,
     label: Label,
 ) -> Result<(), Memory>
     ensures ok { OnOk result (labels_of labels.new ≡ put_at (labels_of labels.old) label (fin.get (labels_of high.now) label)) }
@@ -84,7 +85,7 @@ fn put_label_from(
 {
     let contents = match high.get(&label) {
         None => return Ok(()),
-        Some(contents) => contents.copy()?,
+        Some(contents) => contents.share()?,
     };
     labels.insert(label, contents)?;
     Ok(())
@@ -92,8 +93,8 @@ fn put_label_from(
 
 /// Lets these labels stand for what they stand for in the high map. After a refusal no other label is changed.
 fn put_labels_from(
-    labels: &mut BTreeMap<Label, Contents>,
-    high: &BTreeMap<Label, Contents>,
+    labels: &mut BTreeMap<Label, SharedContents>,
+    high: &BTreeMap<Label, SharedContents>,
     added: &[Label],
 ) -> Result<(), Memory>
     ensures ok { OnOk result (labels_of labels.new ≡ with_keys added.now (labels_of high.now) (labels_of labels.old)) }
@@ -106,7 +107,7 @@ fn put_labels_from(
 }
 
 /// Lets these labels stand for nothing. Takes no memory.
-fn remove_labels(labels: &mut BTreeMap<Label, Contents>, gone: &[Label])
+fn remove_labels(labels: &mut BTreeMap<Label, SharedContents>, gone: &[Label])
     ensures { labels_of labels.new ≡ without_keys gone.now (labels_of labels.old) }
 {
     for label in gone {
@@ -116,8 +117,8 @@ fn remove_labels(labels: &mut BTreeMap<Label, Contents>, gone: &[Label])
 
 /// Adds the labels of the high map that these lack. After a refusal nothing is changed.
 pub(crate) fn add_lacked_labels(
-    labels: &mut BTreeMap<Label, Contents>,
-    high: &BTreeMap<Label, Contents>,
+    labels: &mut BTreeMap<Label, SharedContents>,
+    high: &BTreeMap<Label, SharedContents>,
     added: &[Label],
 ) -> Result<(), Memory>
     requires { added.now ≡ lacking (labels_of labels.old) (fin.entries (labels_of high.now)) }

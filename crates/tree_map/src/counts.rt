@@ -31,11 +31,11 @@ pub(crate) fn count_up(counts: &mut BTreeMap<Label, usize>, node: &Node) -> Resu
 }
 
 /// Counts one name less, of those that were counted.
-pub(crate) fn count_down(counts: &mut BTreeMap<Label, usize>, node: Node)
-    ensures { (numbers : label_of → ℕ) → IsTally counts.old (with_one node numbers) → IsTally counts.new numbers }
+pub(crate) fn count_down(counts: &mut BTreeMap<Label, usize>, node: &Node)
+    ensures { (numbers : label_of → ℕ) → IsTally counts.old (with_one node.now numbers) → IsTally counts.new numbers }
 {
     if let Node::File(label) = node {
-        take_one(counts, label);
+        take_one(counts, *label);
     }
 }
 

@@ -11,6 +11,7 @@ ghost use Rattle.tree_map.specs.Parts.{labels_of, set_back};
 ghost use Rattle.tree_map.specs.Lacking.{clash, is_contents, lacking};
 
 use crate::names::NameTable;
+use crate::shared::SharedContents;
 use br_path::Memory;
 use std::alloc::Global;
 use std::collections::BTreeMap;
@@ -19,8 +20,8 @@ use tree_ops::{Contents, Label};
 /// The labels of the pairs; of two alike the first.
 fn labels_from(
     alloc: Global,
-    pairs: Vec<(Label, Contents)>,
-) -> Result<BTreeMap<Label, Contents>, Memory>
+    pairs: Vec<(Label, SharedContents)>,
+) -> Result<BTreeMap<Label, SharedContents>, Memory>
     ensures { IfOk result (λ m. labels_of m ≡ fin.from_entries pairs.items) }
 {
     let mut pairs = pairs;
@@ -31,17 +32,17 @@ fn labels_from(
     Ok(labels)
 }
 
-/// Adds a copy of what each label stands for that one of the names has.
+/// Adds what each label stands for that one of the names has.
 fn copy_used(
-    pairs: &mut Vec<(Label, Contents)>,
-    labels: &BTreeMap<Label, Contents>,
+    pairs: &mut Vec<(Label, SharedContents)>,
+    labels: &BTreeMap<Label, SharedContents>,
     names: &NameTable,
 ) -> Result<(), Memory>
     ensures { OnOk result (pairs.new.items ≡ pairs.old.items ++ where_key label_cmp (is_used names.now) labels.now.entries) }
 {
     for (label, contents) in labels {
         if names.uses(*label) {
-            pairs.push((*label, contents.copy()?))?;
+            pairs.push((*label, contents.share()?))?;
         }
     }
     Ok(())
@@ -50,10 +51,10 @@ fn copy_used(
 /// The labels of one tree laid over those of another, as far as these names use them.
 pub(crate) fn labels_over(
     alloc: Global,
-    low: &BTreeMap<Label, Contents>,
-    high: &BTreeMap<Label, Contents>,
+    low: &BTreeMap<Label, SharedContents>,
+    high: &BTreeMap<Label, SharedContents>,
     names: &NameTable,
-) -> Result<BTreeMap<Label, Contents>, Memory>
+) -> Result<BTreeMap<Label, SharedContents>, Memory>
     ensures { IfOk result (λ m. labels_of m ≡ fin.from_entries (where_key label_cmp (is_used names.now) high.now.entries ++ where_key label_cmp (is_used names.now) low.now.entries)) }
 {
     let mut pairs = Vec::new(alloc);
@@ -70,7 +71,10 @@ fn is_contents(contents: &Contents, other: &Contents) -> bool
 }
 
 /// What the label stands for.
-fn contents_of<'a>(labels: &'a BTreeMap<Label, Contents>, label: &Label) -> Option<&'a Contents>
+fn contents_of<'a>(
+    labels: &'a BTreeMap<Label, SharedContents>,
+    label: &Label,
+) -> Option<&'a SharedContents>
     ensures { option_copied result ≡ fin.get (labels_of labels.now) label.now }
 {
     labels.get(label)
@@ -81,8 +85,8 @@ fn contents_of<'a>(labels: &'a BTreeMap<Label, Contents>, label: &Label) -> Opti
 /// both have.
 pub(crate) fn labels_lacked(
     alloc: Global,
-    low: &BTreeMap<Label, Contents>,
-    high: &BTreeMap<Label, Contents>,
+    low: &BTreeMap<Label, SharedContents>,
+    high: &BTreeMap<Label, SharedContents>,
 ) -> Result<Option<Vec<Label>>, Memory>
     ensures same { IfOk result (λ found. IfSome found (λ labels. clash is_contents (labels_of low.now) (fin.entries (labels_of high.now)) ≡ false)) }
     ensures labels { IfOk result (λ found. IfSome found (λ labels. labels.items ≡ lacking (labels_of low.now) (fin.entries (labels_of high.now)))) }
@@ -92,7 +96,7 @@ pub(crate) fn labels_lacked(
         match contents_of(low, label) {
             None => labels.push(*label)?,
             Some(own) => {
-                if !is_contents(own, contents) {
+                if !is_contents(own.get(), contents.get()) {
                     return Ok(None);
                 }
             }
@@ -104,9 +108,9 @@ pub(crate) fn labels_lacked(
 /// Lets a label stand for what it stood for before, or for nothing. It stands for something now, so that this takes no
 /// memory.
 pub(crate) fn set_back(
-    labels: &mut BTreeMap<Label, Contents>,
+    labels: &mut BTreeMap<Label, SharedContents>,
     label: Label,
-    before: Option<Contents>,
+    before: Option<SharedContents>,
 )
     requires { is_some (tree.get label_cmp labels.old label) ≡ true }
     ensures { labels_of labels.new ≡ set_back (labels_of labels.old) label before }
@@ -121,7 +125,7 @@ pub(crate) fn set_back(
     }
 }
 
-fn any_of_task(labels: &BTreeMap<Label, Contents>, task: u32) -> bool
+fn any_of_task(labels: &BTreeMap<Label, SharedContents>, task: u32) -> bool
     ensures any { result ≡ list_any (λ label. label.task == task) (keys labels.now) }
     ensures ordered { IsOrdered label_cmp labels.now }
 {
@@ -129,21 +133,21 @@ fn any_of_task(labels: &BTreeMap<Label, Contents>, task: u32) -> bool
 }
 
 /// Whether one of the labels is the task's.
-pub(crate) fn has_label_of(labels: &BTreeMap<Label, Contents>, task: u32) -> bool
+pub(crate) fn has_label_of(labels: &BTreeMap<Label, SharedContents>, task: u32) -> bool
     ensures { result ≡ list_any (λ entry. entry.0.task == task) (fin.entries (labels_of labels.now)) }
 {
     any_of_task(labels, task)
 }
 
-/// Adds a copy of what each label stands for.
+/// Adds what each label stands for.
 fn copy_labels(
-    pairs: &mut Vec<(Label, Contents)>,
-    labels: &BTreeMap<Label, Contents>,
+    pairs: &mut Vec<(Label, SharedContents)>,
+    labels: &BTreeMap<Label, SharedContents>,
 ) -> Result<(), Memory>
     ensures { OnOk result (pairs.new.items ≡ pairs.old.items ++ labels.now.entries) }
 {
     for (label, contents) in labels {
-        pairs.push((*label, contents.copy()?))?;
+        pairs.push((*label, contents.share()?))?;
     }
     Ok(())
 }
@@ -151,8 +155,8 @@ fn copy_labels(
 /// The same labels once more.
 pub(crate) fn labels_again(
     alloc: Global,
-    labels: &BTreeMap<Label, Contents>,
-) -> Result<BTreeMap<Label, Contents>, Memory>
+    labels: &BTreeMap<Label, SharedContents>,
+) -> Result<BTreeMap<Label, SharedContents>, Memory>
     ensures { IfOk result (λ m. labels_of m ≡ labels_of labels.now) }
 {
     let mut pairs = Vec::new(alloc);

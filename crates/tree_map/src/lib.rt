@@ -8,6 +8,7 @@ mod moving;
 mod names;
 mod ops;
 mod paths;
+mod shared;
 mod trees;
 
 pub use trees::MapTree;

@@ -83,11 +83,11 @@ impl NameTable {
         match self.names.insert(at, node) {
             Ok(None) => Ok(()),
             Ok(Some(was)) => {
-                count_down(&mut self.counts, was);
+                count_down(&mut self.counts, &was);
                 Ok(())
             }
             Err(failed) => {
-                count_down(&mut self.counts, failed.value.1);
+                count_down(&mut self.counts, &failed.value.1);
                 Err(Memory)
             }
         }
@@ -98,7 +98,7 @@ impl NameTable {
         ensures { self.new ≡ fin.remove self.old at.now }
     {
         if let Some(node) = self.names.remove(at) {
-            count_down(&mut self.counts, node);
+            count_down(&mut self.counts, &node);
         }
     }
 

@@ -228,7 +228,7 @@ impl TreeOps for MapTree {
         result
     }
 
-    /// With n names and labels the time is in proportion to n log n, but for the bytes that are copied.
+    /// With n names and labels the time is in proportion to n log n. Both trees then have the same bytes in memory.
     fn copy(&self, alloc: Global) -> Result<MapTree, Memory> {
         MapTree::copy(self, alloc)
     }

@@ -23,6 +23,7 @@ use crate::adding::{add_lacked_labels, measure_paths};
 use crate::labels::{labels_again, labels_lacked, labels_over, set_back};
 use crate::names::NameTable;
 use crate::paths::{is_below, is_path};
+use crate::shared::SharedContents;
 use br_path::{Bytes, Memory, Path};
 use std::alloc::Global;
 use std::collections::BTreeMap;
@@ -31,10 +32,11 @@ use tree_ops::{ChangeFault, Contents, LENGTH_LIMIT, Label, Node, Pen, rooted_len
 /// A tree as a map from paths to nodes and one from labels to contents. It also keeps how many names each label has.
 ///
 /// A look-up takes time logarithmic in the number of names, and no memory. What the other calls take stands at each.
+/// Trees that are copied or filled from one another own the bytes of their files together.
 #[derive(Drop)]
 pub struct MapTree {
     pub(crate) names: NameTable,
-    pub(crate) labels: BTreeMap<Label, Contents>,
+    pub(crate) labels: BTreeMap<Label, SharedContents>,
     /// The task whose labels aren't sealed.
     pub(crate) owner: Option<u32>,
 }
@@ -47,11 +49,20 @@ impl MapTree {
         self.names.get(at)
     }
 
+    fn shared_contents(&self, label: &Label) -> Option<&SharedContents>
+        ensures { option_copied result ≡ fin.get (shown self.now).labels label.now }
+    {
+        self.labels.get(label)
+    }
+
     /// What the label stands for.
     pub(crate) fn contents(&self, label: &Label) -> Option<&Contents>
         ensures { option_copied result ≡ fin.get (shown self.now).labels label.now }
     {
-        self.labels.get(label)
+        match self.shared_contents(label) {
+            None => None,
+            Some(contents) => Some(contents.get()),
+        }
     }
 
     /// Refuses a path at which no folder stands.
@@ -98,7 +109,7 @@ impl MapTree {
     }
 
     /// Lets a label stand for these contents. After a refusal nothing is changed.
-    fn add_label(&mut self, label: Label, contents: Contents) -> Result<(), Memory>
+    fn add_label(&mut self, label: Label, contents: SharedContents) -> Result<(), Memory>
         ensures ok { OnOk result (shown self.new ≡ with_label (shown self.old) label contents) }
         ensures err { OnErr result (shown self.new ≡ shown self.old) }
     {
@@ -150,7 +161,7 @@ impl MapTree {
     }
 
     /// Gives a file another label at all its names, which stands for these contents. After a refusal nothing is changed.
-    fn renew(&mut self, from: Label, to: Label, contents: Contents) -> Result<(), Memory>
+    fn renew(&mut self, from: Label, to: Label, contents: SharedContents) -> Result<(), Memory>
         requires { is_label from to ≡ false }
         ensures ok { OnOk result (shown self.new ≡ renewed (shown self.old) from to contents) }
         ensures err { OnErr result (shown self.new ≡ shown self.old) }
@@ -169,7 +180,12 @@ impl MapTree {
     }
 
     /// Gives a file other contents: in its place where the label is the task's own; else all its names get the task's next label first.
-    fn put_contents(&mut self, label: Label, contents: Contents, pen: &Pen) -> Result<(), Memory>
+    fn put_contents(
+        &mut self,
+        label: Label,
+        contents: SharedContents,
+        pen: &Pen,
+    ) -> Result<(), Memory>
         ensures ok { OnOk result (shown self.new ≡ with_contents (shown self.old, counts_of pen.now) label contents) }
         ensures err { OnErr result (shown self.new ≡ shown self.old) }
     {
@@ -212,10 +228,8 @@ impl MapTree {
             None => return Err(ChangeFault::NoSpace),
             Some(after) => after,
         };
-        let contents = Contents {
-            mode: self.mode_of(label),
-            bytes: Bytes::from_slice(alloc, bytes)?,
-        };
+        let bytes = Bytes::from_slice(alloc, bytes)?;
+        let contents = SharedContents::new(alloc, self.mode_of(label), bytes)?;
         self.put_contents(label, contents, pen)?;
         *pen = after;
         Ok(())
@@ -571,10 +585,8 @@ impl MapTree {
             None => return Err(ChangeFault::NoSpace),
             Some(after) => after,
         };
-        let contents = Contents {
-            mode: self.mode_of(label),
-            bytes: joined(alloc, self.bytes_of(label), bytes)?,
-        };
+        let bytes = joined(alloc, self.bytes_of(label), bytes)?;
+        let contents = SharedContents::new(alloc, self.mode_of(label), bytes)?;
         self.put_contents(label, contents, pen)?;
         *pen = after;
         Ok(())
@@ -596,10 +608,8 @@ impl MapTree {
             None => return Err(ChangeFault::NoSpace),
             Some(after) => after,
         };
-        let contents = Contents {
-            mode,
-            bytes: Bytes::from_slice(alloc, self.bytes_of(label))?,
-        };
+        let bytes = Bytes::from_slice(alloc, self.bytes_of(label))?;
+        let contents = SharedContents::new(alloc, mode, bytes)?;
         self.put_contents(label, contents, pen)?;
         *pen = after;
         Ok(())
@@ -621,7 +631,7 @@ impl MapTree {
 
     /// Puts a file at a path where nothing stands, and lets its label stand for these contents. After a refusal
     /// nothing is changed.
-    fn add_file(&mut self, at: &Path, label: Label, contents: Contents) -> Result<(), Memory>
+    fn add_file(&mut self, at: &Path, label: Label, contents: SharedContents) -> Result<(), Memory>
         requires { node_at (shown self.old) at.now ≡ None }
         ensures ok { OnOk result (shown self.new ≡ with_label (with_name (shown self.old) at.now (Node.File label)) label contents) }
         ensures err { OnErr result (shown self.new ≡ shown self.old) }
@@ -651,10 +661,8 @@ impl MapTree {
             None => return Err(ChangeFault::NoSpace),
             Some(after) => after,
         };
-        let contents = Contents {
-            mode,
-            bytes: Bytes::from_slice(alloc, bytes)?,
-        };
+        let bytes = Bytes::from_slice(alloc, bytes)?;
+        let contents = SharedContents::new(alloc, mode, bytes)?;
         self.add_file(at, pen.next_label(), contents)?;
         *pen = after;
         Ok(())

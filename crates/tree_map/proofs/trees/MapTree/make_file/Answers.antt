@@ -13,4 +13,4 @@ returns-in-None c = made_file-full (shown c.args.self.now, c.args.pen.now) c.arg
 pub returns : goal.returns
 returns c =
     made_file-ok (shown c.args.self.now, c.args.pen.now) c.args.at.now c.args.mode c.args.bytes.now (shown c.add_file.new.self) c.in-Some.after c.in_ok-check_new_name.ensures (sym c.in-Some.ensures)
-    (c.in_ok-add_file.ensures.ok ∙ (λ i. with_label (with_name (shown c.args.self.now) c.args.at.now (File (c.next_label.ensures i))) (c.next_label.ensures i) (record { mode = c.args.mode; bytes = c.in_ok-from_slice.ensures i })))
+    (c.in_ok-add_file.ensures.ok ∙ (λ i. with_label (with_name (shown c.args.self.now) c.args.at.now (File (c.next_label.ensures i))) (c.next_label.ensures i) ((c.in_ok-contents.ensures ∙ (λ j. record { mode = c.args.mode; bytes = c.in_ok-bytes.ensures j })) i)))

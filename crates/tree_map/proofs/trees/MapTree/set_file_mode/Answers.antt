@@ -16,5 +16,5 @@ returns c at there =
     let draws = not (c.args.label.task == c.args.pen.now.task) in
     let size = ap (λ n. within_limits (with_counts c.args.pen.now (charged (counts_of c.args.pen.now) (count_if draws 1) n))) c.copied_len-copied.ensures.len in
     let made = c.in_ok-put_contents.ensures.ok
-    ∙ (λ i. with_contents (shown c.args.self.now, counts_of c.args.pen.now) c.args.label (record { mode = c.args.mode; bytes = (c.in_ok-from_slice.ensures ∙ c.bytes_of.ensures) i })) in
+    ∙ ap (with_contents (shown c.args.self.now, counts_of c.args.pen.now) c.args.label) (c.in_ok-contents.ensures ∙ (λ i. record { mode = c.args.mode; bytes = (c.in_ok-bytes.ensures ∙ c.bytes_of.ensures) i })) in
     mode_set-ok (shown c.args.self.now, c.args.pen.now) at c.args.mode c.args.label (shown c.put_contents.new.self) c.in-Some.after draws there refl (sym size ∙ sym c.in-Some.ensures) made

@@ -1,4 +1,4 @@
-use Rattle.std.proofs.Common.{sym, refl, not, ◌==◌, ◌∙◌}
+use Rattle.std.proofs.Common.{sym, refl, not, ap, ◌==◌, ◌∙◌}
 use Rattle.tree_ops.specs.Pen.{counts_of}
 use Rattle.tree_ops.specs.Change.{with_contents}
 use Rattle.tree_map.specs.Parts.{shown}
@@ -12,6 +12,6 @@ returns-in-None c =
 pub returns : goal.returns
 returns c =
     let made = c.in_ok-put_contents.ensures.ok
-    ∙ (λ i. with_contents (shown c.args.self.now, counts_of c.args.pen.now) c.in_ok-label.label (record { mode = c.mode_of.ensures i; bytes = c.in_ok-from_slice.ensures i })) in
+    ∙ ap (with_contents (shown c.args.self.now, counts_of c.args.pen.now) c.in_ok-label.label) (c.in_ok-contents.ensures ∙ (λ i. record { mode = c.mode_of.ensures i; bytes = c.in_ok-bytes.ensures i })) in
     written-ok (shown c.args.self.now, c.args.pen.now) c.args.at.now c.args.bytes.now c.in_ok-label.label (shown c.put_contents.new.self) c.in-Some.after
     (not (c.in_ok-label.label.task == c.args.pen.now.task)) c.in_ok-label.ensures refl (sym c.in-Some.ensures) made
