@@ -1,2 +1,1 @@
-mod OwnPrep
 pub mod OneMore

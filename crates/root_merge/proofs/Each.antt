@@ -1,5 +1,5 @@
 -- Whichever of its writers decides what stands at a path, it is the same.
-use Rattle.std.proofs.Common.{ℕ, suc, ◌≡◌, ◌≤◌, ◌⊎◌, inl, inr, Bool, true, false, cond, List, [], ◌∷◌, ◌++◌, length, Option, Some, None, refl, sym, ap, subst, ◌∙◌, arith}
+use Rattle.std.proofs.Common.{ℕ, suc, ◌≡◌, ◌⊎◌, inl, inr, Bool, true, false, cond, List, [], ◌∷◌, ◌++◌, length, Option, Some, None, sym, ap, ◌∙◌, arith}
 use Rattle.std.specs.Prelude.{nat_le, flat_map}
 use Rattle.std.specs.FinMap as fin
 use Rattle.std.specs.FinMap.{find}
@@ -17,11 +17,11 @@ use Rattle.tree_ops.proofs.Finds.{In, in-find}
 use Rattle.tree_worlds.specs.World.{tree_in}
 use Rattle.task_shelves.specs.Packages.{Left, packages_left, IsLeft, wrote}
 use Rattle.task_shelves.specs.Shelf.{ShelfData}
-use Rattle.root_merge.specs.Overwrites.{writers, nodes_left, is_folder_of, are_one_folder, is_overwritten_by, is_overwritten, overwrites_in, overwrites_of}
-use Rattle.root_merge.specs.Roots.{Standing, standing, entries_of, first_root, root_among, root_of}
+use Rattle.root_merge.specs.Overwrites.{writers, nodes_left, is_folder_of, are_one_folder, is_overwritten_by, overwrites_in, overwrites_of}
+use Rattle.root_merge.specs.Roots.{Standing, standing, entries_of, first_root, root_of}
 use Rattle.root_merge.proofs.Lefts.{in-left, left-in}
 use Rattle.root_merge.proofs.Members.{in-flat_map, flat_map-in, filter-in, all-in, map-in, in-some, append-nils}
-use Rattle.root_merge.proofs.Unions.{IsOf, entry-of, of-entry, few_or_one, origin, left_apart}
+use Rattle.root_merge.proofs.Unions.{entry-of, of-entry, few_or_one, origin, left_apart}
 
 dir-is : (mode : ℕ) (o : Option Node) → is_folder_of mode o ≡ true → o ≡ Some (Dir mode)
 dir-is mode None is = absurd (true≢false (sym is))

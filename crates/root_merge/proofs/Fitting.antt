@@ -27,7 +27,7 @@ use Rattle.tree_ops.proofs.Orders.{label_total}
 use Rattle.root_image.specs.declared.root.RootEntry.{RootEntry}
 use Rattle.root_image.specs.declared.root.RootEntry.TheVariants as root
 use Rattle.root_image.specs.Lines.{Entries}
-use Rattle.root_image.specs.Roots.{is_path, is_first, has_dir, has_first, last_of, rises, has_place, is_link_text, Stands, IsSaid, Fits, FitEach, IsRoot}
+use Rattle.root_image.specs.Roots.{is_path, is_first, has_dir, has_first, last_of, rises, has_place, is_link_text, IsSaid, Fits, FitEach, IsRoot}
 use Rattle.root_image.specs.Roots as image
 use Rattle.root_merge.specs.Roots.{Standing, whole_file}
 use Rattle.root_merge.specs.Firsts.{Firsts, named_file, node_entry, with_first, firsts_on, entries_on, IsSized}

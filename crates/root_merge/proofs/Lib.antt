@@ -1,7 +1,6 @@
 mod Entries
 mod Folders
 mod Noting
-mod OwnPrep
 mod Prefixes
 mod Writing
 mod Members

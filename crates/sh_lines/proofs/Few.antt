@@ -1,5 +1,5 @@
 -- A line has no more words than bytes.
-use Rattle.std.proofs.Common.{ℕ, zero, suc, ◌+◌, ◌≡◌, ◌≤◌, ◌==◌, Bool, true, false, cond, List, [], ◌∷◌, ◌++◌, length, Some, None, Result, Ok, Err, refl, sym, ap, ◌∙◌, subst, arith}
+use Rattle.std.proofs.Common.{ℕ, zero, suc, ◌+◌, ◌≡◌, ◌≤◌, ◌==◌, Bool, true, false, cond, List, [], ◌∷◌, length, Result, Ok, Err, subst, arith}
 use Rattle.std.specs.Prelude.{is_some}
 use Rattle.std.proofs.lemmas.List.{length-append}
 use Rattle.br_path.specs.Gives.{◌>>=◌}
@@ -9,7 +9,7 @@ use Rattle.sh_words.specs.declared.line.Line.{Line}
 use Rattle.sh_words.specs.Left.{Left, left, Reading, at_most, repeated, behind_blanks}
 use Rattle.sh_words.specs.Bytes.{is_over}
 use Rattle.sh_words.specs.Words.{word_of}
-use Rattle.sh_words.specs.Lines.{line_of, item, item_in, redirect, target, second, with_word, with_target, no_words}
+use Rattle.sh_words.specs.Lines.{line_of, item, item_in, redirect, second, with_word, with_target, no_words}
 
 -- a line that is read has at most one word more
 abbrev IsShort : Line → Reading Line → Type 0

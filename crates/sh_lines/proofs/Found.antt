@@ -1,5 +1,5 @@
 -- Where a word leads, by what looking for its place answers.
-use Rattle.std.proofs.Common.{ℕ, ◌≡◌, Bool, true, false, List, Result, Ok, Err, Option, None, refl, sym, subst}
+use Rattle.std.proofs.Common.{ℕ, ◌≡◌, true, false, List, Result, Ok, Err, Option, None, refl, sym, subst}
 use Rattle.br_path.specs.Files.{FileMap}
 use Rattle.tree_worlds.specs.World.{WorldData}
 use Rattle.tree_worlds.specs.Program.{Run, run, Ran}

@@ -6,7 +6,7 @@ use Rattle.tree_worlds.specs.World.{WorldData}
 use Rattle.tree_worlds.specs.Program.{Program, Done}
 use Rattle.tree_worlds.specs.declared.reason.Reason.{Reason}
 use Rattle.sh_places.specs.declared.kind.Kind.{Kind}
-use Rattle.sh_places.specs.declared.kind.Kind.TheVariants.{Dir, Link, File}
+use Rattle.sh_places.specs.declared.kind.Kind.TheVariants.{Dir}
 use Rattle.sh_places.specs.declared.spot.Spot.{Spot}
 use Rattle.sh_places.specs.Finding.{found}
 use Rattle.sh_places.specs.Looks.{kind_at}

@@ -1,5 +1,5 @@
 use Rattle.std.proofs.Common.{sym, subst, ◌<◌}
-use Rattle.build_report.proofs.OwnPrep.{prep_within}
+use Rattle.plan_rows.proofs.OwnPrep.{prep_within}
 use Rattle.build_report.proofs.builds.push_make.Goals as goal
 
 pub shelf-requires : goal.shelf-requires

@@ -1,4 +1,4 @@
-use Rattle.std.proofs.Common.{◌≡◌, ◌++◌, ap, ◌∙◌}
+use Rattle.std.proofs.Common.{◌++◌, ap, ◌∙◌}
 use Rattle.build_report.specs.Builds as text
 use Rattle.build_report.proofs.OneMore.{lines_more}
 use Rattle.build_report.proofs.builds.push_packages.Goals as goal

@@ -1,5 +1,5 @@
 use Rattle.std.proofs.Common.{sym, subst, ◌<◌}
-use Rattle.root_merge.proofs.OwnPrep.{prep_within}
+use Rattle.plan_rows.proofs.OwnPrep.{prep_within}
 use Rattle.root_merge.proofs.packages.left_by.Goals as goal
 
 pub shelf-requires : goal.shelf-requires

@@ -1,4 +1,4 @@
-use Rattle.std.proofs.Common.{rules, ◌≡◌, Ok, Err, sym, ap, ◌∙◌}
+use Rattle.std.proofs.Common.{rules, ap, ◌∙◌}
 use Rattle.tree_worlds.specs.World.{world_data}
 use Rattle.sh_lines.specs.Source.{is_dir}
 use Rattle.sh_lines.proofs.Found.{folder-answered, folder-refused}

@@ -1,7 +1,6 @@
-use Rattle.std.proofs.Common.{rules, ◌≡◌, List, ℕ, ◌++◌, ap, ◌∙◌, codes}
+use Rattle.std.proofs.Common.{rules, ap, ◌∙◌}
 use Rattle.std.proofs.lemmas.List.{take_all}
 use Rattle.br_path.specs.Path.{closed}
-use Rattle.sh_lines.specs.Source.{source_word}
 use Rattle.sh_lines.proofs.source.source_word.Goals as goal
 
 pub returns : goal.returns
