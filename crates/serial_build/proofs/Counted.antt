@@ -1,5 +1,5 @@
 -- Each change leaves the counts right, and so each task ends within its limits.
-use Rattle.std.proofs.Common.{ℕ, ◌+◌, ◌≡◌, ◌≤◌, Bool, true, false, not, cond, ◌&&◌, nat_eq, nat_le, List, [], ◌∷◌, length, Option, Some, None, Result, Ok, Err, is_some, refl, sym, ap, subst, ◌∙◌, true≢false, arith}
+use Rattle.std.proofs.Common.{ℕ, ◌+◌, ◌≡◌, ◌≤◌, Bool, true, false, cond, ◌&&◌, nat_eq, nat_le, List, [], ◌∷◌, length, Option, Some, None, Result, Ok, Err, is_some, refl, sym, ap, subst, ◌∙◌, true≢false, arith}
 use Rattle.std.specs.FinMap as fin
 use Rattle.std.specs.FinMap.{FinMap}
 use Rattle.std.specs.List.{sum_by}
@@ -27,17 +27,17 @@ use Rattle.tree_worlds.specs.declared.reason.Reason.TheVariants.{Operand, Change
 use Rattle.tree_worlds.specs.HeldWorld.{names_in, texts_in}
 use Rattle.tree_worlds.specs.Kept.{IsKept, left_by}
 use Rattle.tree_worlds.specs.Program.{Program, run}
-use Rattle.tree_worlds.specs.World.{WorldData, AreaTrees, tree_in, with_tree, state_in, with_state, put_back, may_change, is_asked, empty_trees, shown_too, readable}
+use Rattle.tree_worlds.specs.World.{WorldData, AreaTrees, tree_in, with_tree, state_in, with_state, ReadableTree, put_back, may_change, is_asked, empty_trees, shown_too}
 use Rattle.tree_worlds.proofs.Programs.{kept_by_run}
 use Rattle.task_shelves.specs.declared.shelf.Stamp.{Stamp}
-use Rattle.task_shelves.specs.Labels.{is_among}
 use Rattle.task_shelves.specs.Shelf.{ShelfData, Built, Failed, Skipped, no_shelf}
-use Rattle.pkg_steps.specs.Filling.{Handed, is_own_prep, fill, ◌>->◌, given_by, filled, begun, first_unbuilt, numbered, owner_of}
+use Rattle.pkg_steps.specs.Filling.{Handed, fill, filled, begun, first_unbuilt, numbered, owner_of}
 use Rattle.dep_graph.specs.Needs.{needs_of}
 use Rattle.pkg_steps.specs.Lines.{Shell, Standing, Runs, Stopped, steps_run}
 use Rattle.pkg_steps.specs.Origins.{KeepsEach}
 use Rattle.pkg_steps.specs.Outcome.{shelved, ended, run_in, unless_skipped, outcome, outcome_in, outcome_of}
 use Rattle.pkg_steps.proofs.Kept.{KeptAt, steps-keep}
+use Rattle.serial_build.proofs.Fillings.{OfWorld, filled-kept}
 use Rattle.serial_build.specs.Limits.{IsCounted, KeepsCounts, IsWithinLimits}
 use Rattle.serial_build.specs.Serial.{Shelves, put, handed_to, serial_from, serial_build}
 use Rattle.serial_build.proofs.Filled.{root-empty}
@@ -139,40 +139,18 @@ KeepsCounts-run program world = kept_by_run KeepsCounts IsKept-KeepsCounts progr
 
 -- ---- fillings
 
-abbrev IsCountedIn : Result WorldData Reason → Type 0
-IsCountedIn (Ok world) = IsCounted world
-IsCountedIn (Err reason) = Unit {0}
-
-put-counted : (world : WorldData) (area : Area) (outcome : Result State ChangeFault) → ((state : State) → outcome ≡ Ok state → IsCounted (with_state world area state)) → IsCountedIn (put_back world area outcome)
+put-counted : (world : WorldData) (area : Area) (outcome : Result State ChangeFault) → ((state : State) → outcome ≡ Ok state → IsCounted (with_state world area state)) → OfWorld IsCounted (put_back world area outcome)
 put-counted world area (Ok state) each = each state refl
 put-counted world area (Err fault) each = tt
 
-fill-counted : (area : Area) (from : Tree) (world : WorldData) → IsCounted world → IsCountedIn (fill area from world)
+fill-counted : (area : Area) (from : Tree) (world : WorldData) → IsCounted world → OfWorld IsCounted (fill area from world)
 fill-counted area from world was = put-counted world area (changed (Populate from) (state_in world area)) (λ state is. counted-at area (Populate from) world state is was)
 
-then-counted : (first : Result WorldData Reason) (next : WorldData → Result WorldData Reason) → ((world : WorldData) → IsCounted world → IsCountedIn (next world)) → IsCountedIn first → IsCountedIn (first >-> next)
-then-counted (Ok world) next each was = each world was
-then-counted (Err reason) next each was = tt
+shown-counted : (world : WorldData) (more : ReadableTree) → IsCounted world → IsCounted (shown_too world more)
+shown-counted world more was = record { roots = was.roots; names = was.names; texts = was.texts; limits = was.limits }
 
-given-counted : (owner : ℕ → List ℕ) (task : ℕ) (trees : AreaTrees) (world : WorldData) (own fills reads : Bool) → IsCounted world
-    → IsCountedIn (cond own (fill Build trees.build world) (cond fills (fill Host trees.host world >-> fill Staging trees.staging >-> fill Target trees.target)
-    (cond reads (Ok (shown_too world (readable task (owner task) trees.build))) (Ok world))))
-given-counted owner task trees world true fills reads was = fill-counted Build trees.build world was
-given-counted owner task trees world false true reads was =
-    then-counted (fill Host trees.host world >-> fill Staging trees.staging) (fill Target trees.target) (λ w. fill-counted Target trees.target w)
-    (then-counted (fill Host trees.host world) (fill Staging trees.staging) (λ w. fill-counted Staging trees.staging w) (fill-counted Host trees.host world was))
-given-counted owner task trees world false false true was = record { roots = was.roots; names = was.names; texts = was.texts; limits = was.limits }
-given-counted owner task trees world false false false was = was
-
-shelf-counted : (row : TaskRow) (owner : ℕ → List ℕ) (task : ℕ) (shelf : ShelfData) (world : WorldData) → IsCounted world → IsCountedIn (given_by row owner task shelf world)
-shelf-counted row owner task (Built trees written stamps) world was = given-counted owner task trees world (is_own_prep row.own_prep task) (is_among row.fills task) (is_among row.readable task) was
-shelf-counted row owner task (Failed step line status reason stamps) world was = was
-shelf-counted row owner task (Skipped by) world was = was
-
-all-counted : (row : TaskRow) (owner : ℕ → List ℕ) (handed : Handed) (world : WorldData) → IsCounted world → IsCountedIn (filled row owner handed world)
-all-counted row owner [] world was = was
-all-counted row owner ((task, shelf) ∷ more) world was =
-    then-counted (given_by row owner task shelf world) (filled row owner more) (λ w. all-counted row owner more w) (shelf-counted row owner task shelf world was)
+all-counted : (row : TaskRow) (owner : ℕ → List ℕ) (handed : Handed) (world : WorldData) → IsCounted world → OfWorld IsCounted (filled row owner handed world)
+all-counted row owner handed world was = filled-kept IsCounted fill-counted shown-counted row owner handed world was
 
 -- ---- where a task begins
 
@@ -246,7 +224,7 @@ module _ (shell : Shell) (each : KeepsEach KeepsCounts shell) where
   ended-within part old (Stopped (Failed step line status reason stamps)) was kept = tt
   ended-within part old (Stopped (Skipped by)) was kept = tt
 
-  run-within : (row : TaskRow) (begins : Result WorldData Reason) → IsCountedIn begins → IsWithinLimits (run_in row shell begins)
+  run-within : (row : TaskRow) (begins : Result WorldData Reason) → OfWorld IsCounted begins → IsWithinLimits (run_in row shell begins)
   run-within row (Err reason) was = tt
   run-within row (Ok world) was =
       ended-within row.part world (steps_run shell row.steps (Runs world [])) was (steps-keep KeepsCounts IsKept-KeepsCounts shell each world row.steps (Runs world []) (λ is. is))

@@ -1,5 +1,5 @@
 -- Shelves of tasks none of which has run.
-use Rattle.std.proofs.Common.{ℕ, ◌≡◌, ◌≤◌, ◌<◌, ◌⊎◌, inl, inr, List, length, All, Option, Some, None, slice_get, slice_index_or, sym, ap, subst, ◌∙◌}
+use Rattle.std.proofs.Common.{ℕ, ◌≡◌, ◌≤◌, ◌<◌, ◌⊎◌, inl, inr, List, length, All, Some, None, slice_get, slice_index_or, sym, ap, subst, ◌∙◌}
 use Rattle.std.proofs.lemmas.Option.{slice_get_cases}
 use Rattle.tree_ops.specs.declared.entry.Label.{Label}
 use Rattle.std.specs.Prelude.{Bool}

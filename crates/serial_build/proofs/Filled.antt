@@ -24,6 +24,7 @@ use Rattle.tree_worlds.specs.World.{WorldData, AreaTrees, tree_in, with_tree, wi
 use Rattle.task_shelves.specs.Labels.{is_among}
 use Rattle.task_shelves.specs.Shelf.{ShelfData, Built, Failed, Skipped}
 use Rattle.pkg_steps.specs.Filling.{Handed, is_own_prep, fill, ◌>->◌, given_by, filled, begun}
+use Rattle.serial_build.proofs.Fillings.{OfWorld, filled-kept}
 use Rattle.serial_build.proofs.Origins.{IsBuiltSo, IsHandedIn, HasNode, HasContents, HasRoot}
 use Rattle.serial_build.proofs.Roots.{root-over}
 
@@ -153,10 +154,6 @@ module _ (number : ℕ) where
   abbrev IsOwn : WorldData → Type 0
   IsOwn world = (world.pen.task ≡ number) × HasRoot world.trees
 
-  abbrev IsOwnResult : Result WorldData Reason → Type 0
-  IsOwnResult (Ok world) = IsOwn world
-  IsOwnResult (Err reason) = Unit {0}
-
   root-with : (area : Area) (trees : AreaTrees) (from : Tree) → HasRoot trees → HasRoot (with_tree trees area (over (tree_in trees area) from))
   root-with Build trees from there = there
   root-with Host trees from there = there
@@ -164,37 +161,16 @@ module _ (number : ℕ) where
   root-with Target trees from there = root-over trees.target from there
 
   own-by : (fits : Bool) (area : Area) (from : Tree) (world : WorldData) (pen : Counts) → pen.task ≡ world.pen.task → IsOwn world
-      → IsOwnResult (both_mapped (with_state world area) for_change (cond {A = Result State ChangeFault} fits (Ok (over (tree_in world.trees area) from, pen)) (Err NoSpace)))
+      → OfWorld IsOwn (both_mapped (with_state world area) for_change (cond {A = Result State ChangeFault} fits (Ok (over (tree_in world.trees area) from, pen)) (Err NoSpace)))
   own-by true area from world pen same is = (same ∙ is.0, root-with area world.trees from is.1)
   own-by false area from world pen same is = tt
 
-  own-fill : (area : Area) (from : Tree) (world : WorldData) → IsOwn world → IsOwnResult (fill area from world)
+  own-fill : (area : Area) (from : Tree) (world : WorldData) → IsOwn world → OfWorld IsOwn (fill area from world)
   own-fill area from world is =
       own-by (is_within_limits (pen_after (Populate from) (tree_in world.trees area, world.pen))) area from world (pen_after (Populate from) (tree_in world.trees area, world.pen)) refl is
 
-  own-then : (first : Result WorldData Reason) (next : WorldData → Result WorldData Reason) → ((world : WorldData) → IsOwn world → IsOwnResult (next world)) → IsOwnResult first → IsOwnResult (first >-> next)
-  own-then (Ok world) next each is = each world is
-  own-then (Err reason) next each is = tt
-
-  own-built : (owner : ℕ → List ℕ) (task : ℕ) (trees : AreaTrees) (world : WorldData) (own fills reads : Bool) → IsOwn world
-      → IsOwnResult (cond own (fill Build trees.build world) (cond fills (fill Host trees.host world >-> fill Staging trees.staging >-> fill Target trees.target)
-      (cond reads (Ok (shown_too world (readable task (owner task) trees.build))) (Ok world))))
-  own-built owner task trees world true fills reads is = own-fill Build trees.build world is
-  own-built owner task trees world false true reads is =
-      own-then (fill Host trees.host world >-> fill Staging trees.staging) (fill Target trees.target) (λ w. own-fill Target trees.target w)
-      (own-then (fill Host trees.host world) (fill Staging trees.staging) (λ w. own-fill Staging trees.staging w) (own-fill Host trees.host world is))
-  own-built owner task trees world false false true is = is
-  own-built owner task trees world false false false is = is
-
-  own-given : (row : TaskRow) (owner : ℕ → List ℕ) (task : ℕ) (shelf : ShelfData) (world : WorldData) → IsOwn world → IsOwnResult (given_by row owner task shelf world)
-  own-given row owner task (Built trees written stamps) world is = own-built owner task trees world (is_own_prep row.own_prep task) (is_among row.fills task) (is_among row.readable task) is
-  own-given row owner task (Failed step line status reason stamps) world is = is
-  own-given row owner task (Skipped by) world is = is
-
-  own-all : (row : TaskRow) (owner : ℕ → List ℕ) (handed : Handed) (world : WorldData) → IsOwn world → IsOwnResult (filled row owner handed world)
-  own-all row owner [] world is = is
-  own-all row owner ((task, shelf) ∷ more) world is =
-      own-then (given_by row owner task shelf world) (filled row owner more) (λ w. own-all row owner more w) (own-given row owner task shelf world is)
+  own-all : (row : TaskRow) (owner : ℕ → List ℕ) (handed : Handed) (world : WorldData) → IsOwn world → OfWorld IsOwn (filled row owner handed world)
+  own-all row owner handed world is = filled-kept IsOwn own-fill (λ old more was. was) row owner handed world is
 
 -- ---- where a task begins
 
@@ -215,7 +191,7 @@ empty_in is Target h = h
 module _ (row : TaskRow) (owner : ℕ → List ℕ) (task : ℕ) (handed : Handed) where
   pub Starts-all : (world : WorldData) → filled row owner handed (begun row task) ≡ Ok world → Starts task handed world
   Starts-all world is =
-      let own : IsOwn task world = subst (IsOwnResult task) is (own-all task row owner handed (begun row task) (refl, root-empty)) in
+      let own : IsOwn task world = subst (OfWorld (IsOwn task)) is (own-all task row owner handed (begun row task) (refl, root-empty)) in
       record {
         entries = λ path node there.
             let of = λ (tree : Tree). node_at tree path ≡ Some node in

@@ -1,7 +1,5 @@
 -- Tasks run one after another.
-use Rattle.std.proofs.Common.{ℕ, ◌≡◌, ◌<◌, ◌+◌, Bool, true, false, cond, nat_eq, List, [], ◌∷◌, ◌++◌, map, flat_map, take, drop, length, slice_index, slice_index_or, All, refl, sym, ap, subst, ◌∙◌, eqb-true, take-append-drop}
-use Rattle.std.specs.Prelude.{Contains}
-use Rattle.std.proofs.lemmas.Bool.{true≢false}
+use Rattle.std.proofs.Common.{ℕ, ◌≡◌, ◌<◌, ◌+◌, Bool, true, false, cond, nat_eq, List, [], ◌∷◌, ◌++◌, flat_map, take, drop, length, slice_index, slice_index_or, refl, sym, ap, subst, ◌∙◌, eqb-true}
 use Rattle.std.proofs.lemmas.List.{drop_more, take_more, append-nil}
 use Rattle.std.proofs.lemmas.Map.Views.{Contains-from_any}
 use Rattle.tree_ops.proofs.Heads.{rows}
@@ -10,13 +8,13 @@ use Rattle.dep_graph.specs.Order.{IsOrder}
 use Rattle.plan_rows.specs.Plan.{Planned}
 use Rattle.tree_worlds.specs.Kept.{Keeps}
 use Rattle.task_shelves.specs.Shelf.{ShelfData, no_shelf}
-use Rattle.task_shelves.specs.Labels.{is_among, are_among, drawers_on}
+use Rattle.task_shelves.specs.Labels.{is_among, drawers_on}
 use Rattle.pkg_steps.specs.Lines.{Shell}
 use Rattle.pkg_steps.specs.Origins.{KeepsEach}
 use Rattle.pkg_steps.specs.Outcome.{outcome_of}
 use Rattle.pkg_steps.proofs.Drawn.{drawn_by_task}
 use Rattle.serial_build.specs.Serial.{Shelves, put, handed_to, serial_from, serial_build}
-use Rattle.serial_build.proofs.Among.{not_among, are_within, none_drew, not_last, and_last}
+use Rattle.serial_build.proofs.Among.{not_among, none_drew, not_last, and_last}
 
 -- what the tasks that were run drew, is all that is drawn
 abbrev pub AreDrawn : List ℕ → Shelves → Type 0

@@ -6,7 +6,10 @@ pub mod Skips
 pub mod Roots
 pub mod Origins
 pub mod Filled
+pub mod Fillings
 pub mod Wrote
 pub mod Growing
 pub mod Grounds
 pub mod Counted
+pub mod Fixed
+pub mod Unbuilt

@@ -47,7 +47,7 @@ steps-failed shell (row ∷ rows) (Stopped shelf) is = is
 steps-failed shell (row ∷ rows) (Runs world stamps) is =
     steps-failed shell rows (after_step row.step stamps (step_run shell row world)) (after-failed row.step stamps (step_run shell row world))
 
-abbrev HasEnded : ShelfData → Type 0
+abbrev pub HasEnded : ShelfData → Type 0
 HasEnded shelf = IsBuilt shelf ⊎ HasFailed shelf
 
 shelved-built : (part : Part) (old new : AreaTrees) (stamps : List Stamp) → IsBuilt (shelved part old new stamps)
@@ -58,7 +58,7 @@ ended-ends : (part : Part) (old : AreaTrees) (standing : Standing) → EndsFaile
 ended-ends part old (Runs world stamps) is = inl (shelved-built part old world.trees stamps)
 ended-ends part old (Stopped shelf) is = inr is
 
-run-ends : (row : TaskRow) (shell : Shell) (start : Result WorldData Reason) → HasEnded (run_in row shell start)
+pub run-ends : (row : TaskRow) (shell : Shell) (start : Result WorldData Reason) → HasEnded (run_in row shell start)
 run-ends row shell (Err reason) = inr tt
 run-ends row shell (Ok world) = ended-ends row.part world.trees (steps_run shell row.steps (Runs world [])) (steps-failed shell row.steps (Runs world []) tt)
 
@@ -67,10 +67,10 @@ built-none task (Built trees written stamps) is = refl
 built-none task (Failed step line status reason stamps) is = absurd is
 built-none task (Skipped by) is = absurd is
 
-is_first : (need : ℕ) (needs : List ℕ) → is_among (need ∷ needs) need ≡ true
+pub is_first : (need : ℕ) (needs : List ℕ) → is_among (need ∷ needs) need ≡ true
 is_first need needs = ap (λ b. b || is_among needs need) (eq-eqb need need refl)
 
-or_later : (a b : Bool) → b ≡ true → (a || b) ≡ true
+pub or_later : (a b : Bool) → b ≡ true → (a || b) ≡ true
 or_later true b is = refl
 or_later false b is = is
 
@@ -100,7 +100,7 @@ not-both (Built trees written stamps) fine failed = failed
 not-both (Failed step line status reason stamps) fine failed = fine
 not-both (Skipped by) fine failed = failed
 
-among-last : (past : List ℕ) (task other : ℕ) → is_among (past ++ task ∷ []) other ≡ true → (is_among past other ≡ true) ⊎ (other ≡ task)
+pub among-last : (past : List ℕ) (task other : ℕ) → is_among (past ++ task ∷ []) other ≡ true → (is_among past other ≡ true) ⊎ (other ≡ task)
 among-last past task other there = by (is_among past other) (nat_eq other task) refl refl (sym (list_any-append (nat_eq other) past (task ∷ [])) ∙ there)
   where
     by : (a b : Bool) → is_among past other ≡ a → nat_eq other task ≡ b → (a || (b || false)) ≡ true → (is_among past other ≡ true) ⊎ (other ≡ task)

@@ -1,3 +1,4 @@
 pub mod Serial
 pub mod Roots
 pub mod Limits
+pub mod Skips

@@ -10,7 +10,8 @@ mod outcomes;
 mod serial;
 
 pub use laws::{
-    built_trees_are_within_limits, labels_are_drawn, shelves_are_grounded, skips_come_of_failures,
+    built_trees_are_within_limits, labels_are_drawn, outcomes_are_of_needs, shelves_are_grounded,
+    skips_come_of_failures, skips_name_the_least_need,
 };
 pub use outcomes::Outcomes;
 pub use serial::run_serially;

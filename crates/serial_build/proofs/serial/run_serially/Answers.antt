@@ -1,4 +1,4 @@
-use Rattle.std.proofs.Common.{rules, ◌≡◌, ap, ◌∙◌, slice_index_or}
+use Rattle.std.proofs.Common.{◌∙◌}
 use Rattle.task_shelves.specs.Shelf.{shelf_data}
 use Rattle.serial_build.specs.Serial.{shelves_data}
 use Rattle.serial_build.proofs.InTurn.{begins_over, goes_over, fresh_over}

@@ -1,8 +1,8 @@
-use Rattle.std.proofs.Common.{rules, ◌≡◌, ◌<◌, ◌∷◌, [], ◌++◌, ◌+◌, map, take, length, List, ℕ, IfOk, slice_index_or, sym, ap, subst, ◌∙◌}
+use Rattle.std.proofs.Common.{rules, ◌≡◌, ◌<◌, ◌∷◌, [], ◌++◌, ◌+◌, map, take, length, slice_index_or, sym, ap, subst, ◌∙◌}
 use Rattle.std.proofs.Math.Seq.{take-length}
 use Rattle.std.proofs.lemmas.List.{take_more, map-append}
 use Rattle.dep_graph.specs.Needs.{needs_of}
-use Rattle.task_shelves.specs.Shelf.{ShelfData, shelf_data}
+use Rattle.task_shelves.specs.Shelf.{shelf_data}
 use Rattle.pkg_steps.specs.Outcome.{outcome_of}
 use Rattle.pkg_steps.specs.Runs.{HasTaken}
 use Rattle.pkg_steps.proofs.Taking.{if_ok}

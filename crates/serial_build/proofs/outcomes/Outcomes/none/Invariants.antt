@@ -1,4 +1,4 @@
-use Rattle.std.proofs.Common.{◌≡◌, ◌≤◌, length}
+use Rattle.std.proofs.Common.{◌≡◌, length}
 use Rattle.serial_build.proofs.Empty.{AreNone}
 use Rattle.serial_build.proofs.outcomes.Outcomes.none.Given as goal
 
