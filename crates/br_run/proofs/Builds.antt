@@ -1,8 +1,8 @@
 -- What builds give.
-use Rattle.std.proofs.Common.{ℕ, ◌≡◌, ◌≢◌, ◌+◌, ◌<◌, ◌||◌, Bool, true, false, not, cond, List, [], ◌∷◌, ◌++◌, length, map, Option, Some, None, Result, Ok, Err, refl, sym, ap, subst, ◌∙◌, arith}
+use Rattle.std.proofs.Common.{ℕ, ◌≡◌, ◌≢◌, ◌+◌, ◌<◌, Bool, true, false, not, cond, List, [], ◌∷◌, ◌++◌, length, Result, Ok, Err, refl, sym, ap, subst, ◌∙◌, arith}
 use Rattle.std.specs.Prelude.{All, IfOk}
 use Rattle.std.specs.Prelude.{filter}
-use Rattle.std.specs.List.{list_any, range_with_len}
+use Rattle.std.specs.List.{range_with_len}
 use Rattle.std.proofs.lemmas.Bool.{true≢false, eqb-true}
 use Rattle.std.proofs.lemmas.List.Elements.{All-append, All-map}
 use Rattle.std.proofs.lemmas.List.Folds.{list_any_at}
@@ -11,7 +11,6 @@ use Rattle.br_path.specs.declared.area.Area.{Area}
 use Rattle.br_path.specs.declared.area.Area.TheVariants as areas
 use Rattle.br_path.specs.declared.values.Memory.{Memory as Want}
 use Rattle.br_path.specs.Files.{FileMap}
-use Rattle.br_path.specs.Path.{Names}
 use Rattle.plan_rows.specs.Plan.{Planned, IsPlan}
 use Rattle.task_shelves.specs.declared.overwrites.Overwrite.{Overwrite}
 use Rattle.task_shelves.specs.Grounded.{AreGrounded}

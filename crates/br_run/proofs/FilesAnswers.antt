@@ -1,6 +1,6 @@
 -- What holds of the answers to files.
-use Rattle.std.proofs.Common.{◌≡◌, ◌≢◌, inl, inr, ℕ, Bool, true, false, cond, List, Result, Ok, Err, refl, sym, subst}
-use Rattle.std.specs.Prelude.{None, IfOk}
+use Rattle.std.proofs.Common.{◌≡◌, ◌≢◌, ℕ, Bool, true, false, cond, List, Result, Ok, Err, refl}
+use Rattle.std.specs.Prelude.{IfOk}
 use Rattle.br_path.specs.declared.values.Memory.{Memory as Want}
 use Rattle.br_path.specs.Files.{FileMap}
 use Rattle.br_words.specs.declared.command.Words.{Words}
@@ -14,24 +14,25 @@ use Rattle.root_merge.specs.Overwrites.{overwrites_of}
 use Rattle.br_run.specs.declared.answer.Answer.{Answer}
 use Rattle.br_run.specs.declared.status.Status.{Status}
 use Rattle.br_run.specs.declared.status.Status.TheVariants.{PackagesFailed, Overwrites, NoMemory, FeedFault, SinkFault, BadWords}
-use Rattle.br_run.specs.Answer.{IsBuildAnswer, no_build, build, IsConfigAnswer, no_values, values, IsPlanAnswer, no_tasks, tasks, IsShowAnswer, no_packages, packages, IsFilesAnswer, IsPossible, bad_input, not_yet, written, is_build}
+use Rattle.br_run.specs.Answer.{IsBuildAnswer, no_build, build, IsConfigAnswer, no_values, values, IsPlanAnswer, no_tasks, tasks, IsShowAnswer, no_packages, packages, IsFilesAnswer, IsPossible, IsReport, bad_input, not_yet, written, is_build}
+use Rattle.br_run.proofs.Reports.{bad_input-is, not_yet-is, written-is}
 use Rattle.br_run.specs.Built.{shelves_of, some_failed, some_overwritten, without_image, with_image, build_answer}
 use Rattle.br_run.specs.Shown.{Relation, Depends, DependsInSteps, IsDependedOn}
 
--- the answer to the files of a command: a possible one, not that to bad words or to a failed feed, and without an image unless
--- something is built
+-- the answer to the files of a command: a possible one, not that to bad words or to a failed feed, and a report unless something
+-- is built
 pub record IsOfFiles (command : Words) (answer : Answer) : Type 0 where
   pub possible : IsPossible answer
   pub words : answer.status ≢ BadWords
   pub feed : answer.status ≢ FeedFault
-  pub image : is_build command ≡ false → answer.image ≡ None
+  pub report : is_build command ≡ false → IsReport answer
 
 IsOfFiles-bad_input : (command : Words) (fault : InputFault) (names : List (List ℕ)) → IsOfFiles command (bad_input fault names)
 IsOfFiles-bad_input command fault names = record {
   possible = record { image = λ _. refl; feed = λ is. absurd (cc); memory = λ is. absurd (cc); sink = λ is. absurd (cc) };
   words = λ is. absurd (cc);
   feed = λ is. absurd (cc);
-  image = λ _. refl;
+  report = λ _. bad_input-is fault names;
 }
 
 IsOfFiles-not_yet : (command : Words) → IsOfFiles command not_yet
@@ -39,7 +40,7 @@ IsOfFiles-not_yet command = record {
   possible = record { image = λ _. refl; feed = λ is. absurd (cc); memory = λ is. absurd (cc); sink = λ is. absurd (cc) };
   words = λ is. absurd (cc);
   feed = λ is. absurd (cc);
-  image = λ _. refl;
+  report = λ _. not_yet-is;
 }
 
 IsOfFiles-written : (command : Words) (text : List ℕ) → IsOfFiles command (written text)
@@ -47,7 +48,7 @@ IsOfFiles-written command text = record {
   possible = record { image = λ _. refl; feed = λ is. absurd (cc); memory = λ is. absurd (cc); sink = λ is. absurd (cc) };
   words = λ is. absurd (cc);
   feed = λ is. absurd (cc);
-  image = λ _. refl;
+  report = λ _. written-is text;
 }
 
 IsOfFiles-without_image : (workers : ℕ) (trace : Bool) (plan : Planned) (shelves : ℕ → ShelfData) (forced : List (List ℕ)) (status : Status)
@@ -56,7 +57,7 @@ IsOfFiles-without_image workers trace plan shelves forced status feed memory sin
   possible = record { image = λ _. refl; feed = λ is. absurd (feed is); memory = memory; sink = sink };
   words = words;
   feed = feed;
-  image = λ _. refl;
+  report = λ is. absurd (cc);
 }
 
 IsOfFiles-with_image : (workers : ℕ) (trace : Bool) (plan : Planned) (shelves : ℕ → ShelfData) (forced : List (List ℕ)) → IsOfFiles (Build workers trace) (with_image plan shelves forced)
@@ -64,7 +65,7 @@ IsOfFiles-with_image workers trace plan shelves forced = record {
   possible = record { image = λ other. absurd (other refl); feed = λ is. absurd (cc); memory = λ is. absurd (cc); sink = λ is. absurd (cc) };
   words = λ is. absurd (cc);
   feed = λ is. absurd (cc);
-  image = λ is. absurd (cc);
+  report = λ is. absurd (cc);
 }
 
 IsOfFiles-answer : (workers : ℕ) (trace : Bool) (plan : Planned) (shelves : ℕ → ShelfData) (forced : List (List ℕ)) → IsOfFiles (Build workers trace) (build_answer plan shelves forced)

@@ -5,3 +5,4 @@ pub mod SmallFiles
 pub mod Told
 pub mod Builds
 pub mod Failed
+pub mod Reports

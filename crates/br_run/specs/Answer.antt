@@ -18,7 +18,7 @@ use Rattle.br_run.specs.declared.answer.Answer.{Answer}
 use Rattle.br_run.specs.declared.configuration.Configuration.{Configuration}
 use Rattle.br_run.specs.declared.fault.NoAnswer.{NoAnswer}
 use Rattle.br_run.specs.declared.fault.NoAnswer.TheVariants.{Fault, Memory}
-use Rattle.br_run.specs.declared.status.Status.TheVariants.{Done, BadInput, NoMemory, FeedFault, SinkFault, BadWords}
+use Rattle.br_run.specs.declared.status.Status.TheVariants.{Done, PackagesFailed, Overwrites, BadInput, NoMemory, FeedFault, SinkFault, BadWords}
 use Rattle.br_run.specs.Configured.{IsConfiguration, IsConfigFault}
 use Rattle.br_run.specs.Built.{shelves_of, build_answer}
 use Rattle.br_run.specs.Planned.{IsInputFault, IsPlanOf, IsPlanWith}
@@ -132,7 +132,8 @@ pub record IsPossible (answer : Answer) : Type 0 where
   pub memory : answer.status ≢ NoMemory
   pub sink : answer.status ≢ SinkFault
 
--- what holds of the answer of a command that puts no image
+-- what holds of the answer of a command that builds nothing: it has no image, and none of the two statuses that tell of packages
 pub record IsReport (answer : Answer) : Type 0 where
-  pub status : (answer.status ≡ Done) ⊎ (answer.status ≡ BadInput)
   pub image : answer.image ≡ None
+  pub failed : answer.status ≢ PackagesFailed
+  pub overwritten : answer.status ≢ Overwrites

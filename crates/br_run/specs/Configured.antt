@@ -14,7 +14,6 @@ use Rattle.kc_equations.specs.Faults.{IsSolved, IsFirstFault as IsFirstSolveFaul
 use Rattle.br_run.specs.declared.configuration.Configuration.{Configuration}
 use Rattle.build_report.specs.declared.fault.InputFault.{InputFault}
 use Rattle.build_report.specs.declared.fault.InputFault.TheVariants.{Menu, Wish as BadWish, Solve}
-use Rattle.br_run.specs.Fault.{Faults}
 
 -- the text of the wishes: a missing `.config` is an empty one
 abbrev pub wishes_text : FileMap → List ℕ

@@ -8,7 +8,6 @@ use Rattle.recipe_set.specs.declared.fault.PlanFault.TheVariants.{Cycle, Memory}
 use Rattle.recipe_plan.specs.Planning.{IsNaming, IsPlanning}
 use Rattle.build_report.specs.declared.fault.InputFault.{InputFault}
 use Rattle.build_report.specs.declared.fault.InputFault.TheVariants.{Plan}
-use Rattle.br_run.specs.Fault.{Faults}
 use Rattle.br_run.specs.declared.configuration.Configuration.{Configuration}
 use Rattle.br_run.specs.Configured.{IsConfiguration, IsConfigFault}
 

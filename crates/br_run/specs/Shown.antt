@@ -12,7 +12,6 @@ use Rattle.br_run.specs.declared.show.Show.TheVariants as show
 use Rattle.br_run.specs.Planned.{IsInputFault, IsPlanOf}
 use Rattle.build_report.specs.declared.fault.InputFault.{InputFault}
 use Rattle.build_report.specs.declared.fault.InputFault.TheVariants.{NoPackage}
-use Rattle.br_run.specs.Fault.{Faults}
 
 -- a relation of packages by what tasks need: the second is shown where the first is asked for
 abbrev pub Relation : Type 1

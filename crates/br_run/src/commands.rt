@@ -1,11 +1,11 @@
 //! From words and a feed to an answer: which command is run, and over which files.
-ghost use Rattle.std.specs.Prelude.{◌≡◌, ◌≢◌, ℕ, ◌<◌, ◌⊎◌, List, Some, None, false, IfOk};
+ghost use Rattle.std.specs.Prelude.{◌≡◌, ◌≢◌, ℕ, ◌<◌, ◌⊎◌, List, Some, false, IfOk};
 ghost use Rattle.br_words.specs.declared.command.Words.{Words as WordsValue};
 ghost use Rattle.br_words.specs.Command.{IsCommand, IsMisfit};
 ghost use Rattle.feed_io.specs.declared.feed.FeedFile.{FeedFile};
 ghost use Rattle.feed_io.specs.Cause.{Rose};
 ghost use Rattle.br_path.specs.Files.{AreSmall};
-ghost use Rattle.br_run.specs.Answer.{IsAnswer, IsCommandAnswer, IsFilesAnswer, IsListAnswer, IsPossible, bad_words, feed_failed, is_build, is_run};
+ghost use Rattle.br_run.specs.Answer.{IsAnswer, IsCommandAnswer, IsFilesAnswer, IsListAnswer, IsPossible, IsReport, bad_words, feed_failed, is_build, is_run};
 
 use crate::answer::{
     Answer, answer_bad_input, answer_bad_words, answer_feed_failed, answer_not_yet,
@@ -23,11 +23,12 @@ use feed_io::{Feed, ReadFault, read_all};
 use std::alloc::Global;
 
 /// Finds the answer to words and the files of a feed, which is asked only where the words are a command.
+#[tactic(auto, using(crate::proofs::Reports::bad_words_answered))]
 pub fn answer_to<F: Feed>(alloc: Global, words: &[Bytes], feed: &mut F) -> Result<Answer, Memory>
     ensures told { (list : List FeedFile) → F.left feed.old ≡ Some list → IfOk result (λ answer. IsAnswer words.now list answer ⊎ (answer ≡ feed_failed)) }
     ensures misfit { (place : ℕ) → IsMisfit words.now place → IfOk result (λ answer. answer ≡ bad_words place) }
     ensures possible { IfOk result IsPossible }
-    ensures no_image { (command : WordsValue) → IsCommand words.now command → is_build command ≡ false → IfOk result (λ answer. answer.image ≡ None) }
+    ensures report { (command : WordsValue) → IsCommand words.now command → is_build command ≡ false → IfOk result IsReport }
     ensures cause { IfOk result (λ answer. answer ≡ feed_failed → Rose (F.faults feed.old) (F.faults feed.new)) }
     ensures always { F.faults feed.old < F.faults feed.new → IfOk result (λ answer. answer ≡ feed_failed) }
     ensures asked { (place : ℕ) → IsMisfit words.now place → feed.new ≡ feed.old }
@@ -43,6 +44,7 @@ pub fn answer_to<F: Feed>(alloc: Global, words: &[Bytes], feed: &mut F) -> Resul
 }
 
 /// Finds the answer to a command over the files of a feed.
+#[tactic(auto, using(crate::proofs::Reports::not_yet_answered))]
 pub fn answer_command<F: Feed>(
     alloc: Global,
     command: &Words,
@@ -50,7 +52,7 @@ pub fn answer_command<F: Feed>(
 ) -> Result<Answer, Memory>
     ensures told { (list : List FeedFile) → F.left feed.old ≡ Some list → IfOk result (λ answer. IsCommandAnswer (is_run command.now) command.now list answer ⊎ (answer ≡ feed_failed)) }
     ensures possible { IfOk result IsPossible }
-    ensures no_image { is_build command.now ≡ false → IfOk result (λ answer. answer.image ≡ None) }
+    ensures report { is_build command.now ≡ false → IfOk result IsReport }
     ensures fits { IfOk result (λ answer. answer.status ≢ Status.BadWords) }
     ensures cause { IfOk result (λ answer. answer ≡ feed_failed → Rose (F.faults feed.old) (F.faults feed.new)) }
     ensures always { F.faults feed.old < F.faults feed.new → IfOk result (λ answer. answer ≡ feed_failed) }
@@ -71,10 +73,11 @@ fn is_run(command: &Words) -> bool
     }
 }
 
+#[tactic(auto, using(crate::proofs::Reports::feed_failed_answered, crate::proofs::Reports::bad_input_answered))]
 fn answer_list<F: Feed>(alloc: Global, command: &Words, feed: &mut F) -> Result<Answer, Memory>
     ensures told { (list : List FeedFile) → F.left feed.old ≡ Some list → IfOk result (λ answer. IsListAnswer command.now list answer ⊎ (answer ≡ feed_failed)) }
     ensures possible { IfOk result IsPossible }
-    ensures no_image { is_build command.now ≡ false → IfOk result (λ answer. answer.image ≡ None) }
+    ensures report { is_build command.now ≡ false → IfOk result IsReport }
     ensures fits { IfOk result (λ answer. answer.status ≢ Status.BadWords) }
     ensures cause { IfOk result (λ answer. answer ≡ feed_failed → Rose (F.faults feed.old) (F.faults feed.new)) }
     ensures always { F.faults feed.old < F.faults feed.new → IfOk result (λ answer. answer ≡ feed_failed) }

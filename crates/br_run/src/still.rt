@@ -58,6 +58,7 @@ pub fn run_still<F: Feed, O: Sink, I: Sink>(
         × IsCutShort answer (sinks (I.held image.old) (I.held image.new) (O.held out.old) (O.held out.new)) }
     ensures no_image { result ≢ Status.Done → result ≢ Status.SinkFault → image.new ≡ image.old }
     ensures no_build { is_build command.now ≡ false → image.new ≡ image.old }
+    ensures no_packages { is_build command.now ≡ false → (result ≢ Status.PackagesFailed) × (result ≢ Status.Overwrites) }
     ensures no_words { result ≢ Status.BadWords }
 {
     let Ok(answer) = answer_command(alloc, command, feed) else {

@@ -55,6 +55,7 @@ pub fn run<F: Feed, O: Sink, I: Sink>(
         × IsCutShort answer (sinks (I.held image.old) (I.held image.new) (O.held out.old) (O.held out.new)) }
     ensures no_image { result ≢ Status.Done → result ≢ Status.SinkFault → image.new ≡ image.old }
     ensures no_build { (command : WordsValue) → IsCommand words.now command → is_build command ≡ false → image.new ≡ image.old }
+    ensures no_packages { (command : WordsValue) → IsCommand words.now command → is_build command ≡ false → (result ≢ Status.PackagesFailed) × (result ≢ Status.Overwrites) }
     ensures words { (place : ℕ) → IsMisfit words.now place → (feed.new ≡ feed.old) × ((result ≡ Status.BadWords) ⊎ (result ≡ Status.SinkFault) ⊎ (result ≡ Status.NoMemory)) }
     ensures bad_words { result ≡ Status.BadWords → (place : ℕ) × IsMisfit words.now place × Appended (O.held out.old) (fault_report (misfit_words place) 7) (O.held out.new) }
 {

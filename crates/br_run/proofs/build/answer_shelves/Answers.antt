@@ -1,6 +1,6 @@
-use Rattle.std.proofs.Common.{rules, ◌≡◌, true, false, sym, ap, subst, ◌∙◌}
-use Rattle.br_run.specs.Built.{some_failed, some_overwritten, build_answer}
-use Rattle.br_run.proofs.Builds.{answered, answer_where_failed, answer_where_overwritten, answer_where_whole, none_overwritten}
+use Rattle.std.proofs.Common.{true, sym, ◌∙◌}
+use Rattle.br_run.specs.Built.{build_answer}
+use Rattle.br_run.proofs.Builds.{answered, answer_where_failed}
 use Rattle.br_run.proofs.build.answer_shelves.Goals as goal
 
 pub returns-then-failed : goal.returns-then-failed

@@ -9,8 +9,8 @@ answer_files-requires g c = let list = c.in-Ok.ensures.limits in faultless_small
 pub returns-clause-possible : goal.returns-clause-possible
 returns-clause-possible g c = IsOfFiles-answered _ _ _ _ (λ answer is. is.possible) c.answer_files.ensures
 
-pub returns-clause-no_image : goal.returns-clause-no_image
-returns-clause-no_image g c = λ other. IsOfFiles-answered _ _ _ _ (λ answer is. is.image other) c.answer_files.ensures
+pub returns-clause-report : goal.returns-clause-report
+returns-clause-report g c = λ other. IsOfFiles-answered _ _ _ _ (λ answer is. is.report other) c.answer_files.ensures
 
 pub returns-clause-fits : goal.returns-clause-fits
 returns-clause-fits g c = IsOfFiles-answered _ _ _ _ (λ answer is. is.words) c.answer_files.ensures

@@ -13,6 +13,6 @@ returns-in-At-clause-misfit g c = λ place misfit.
     let found = rw c.in-At.is at c.in-Err.ensures in
     subst (λ p. IfOk c.answer_bad_words.result (λ answer. answer ≡ bad_words p)) ((has_one_answer _).place _ _ found misfit) c.answer_bad_words.ensures
 
-pub returns-in-Ok-clause-no_image : goal.returns-in-Ok-clause-no_image
-returns-in-Ok-clause-no_image g c = λ command is other.
-    c.answer_command.ensures.no_image (ap is_build ((has_one_answer _).command _ _ c.in-Ok.ensures is) ∙ other)
+pub returns-in-Ok-clause-report : goal.returns-in-Ok-clause-report
+returns-in-Ok-clause-report g c = λ command is other.
+    c.answer_command.ensures.report (ap is_build ((has_one_answer _).command _ _ c.in-Ok.ensures is) ∙ other)

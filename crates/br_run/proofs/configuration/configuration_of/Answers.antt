@@ -1,4 +1,4 @@
-use Rattle.br_run.specs.Configured.{HasNoSolution, IsConfigFault, no_menu, no_solution, wishes_text}
+use Rattle.br_run.specs.Configured.{HasNoSolution, IsConfigFault, no_menu, no_solution}
 use Rattle.br_run.proofs.Told.{Tells-map, told}
 use Rattle.build_report.specs.declared.fault.InputFault.TheVariants.{Menu}
 use Rattle.std.proofs.Common.{subst}
