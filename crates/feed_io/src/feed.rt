@@ -18,11 +18,11 @@ pub struct FeedFile {
 pub enum FeedError {
     /// The feed failed, and its count of faults rose.
     Failed,
-    /// Want of memory.
+    /// Out of memory.
     Memory,
 }
 
-/// An error of std is a failure, want of memory within its calls included.
+/// An error of std is a failure, out of memory within its calls included.
 impl From<io::Error> for FeedError {
     ghost use Rattle.feed_io.specs.declared.feed.FeedError.TheVariants.{Failed};
 

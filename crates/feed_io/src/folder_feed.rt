@@ -15,10 +15,10 @@ use std::marker::Model;
 ///
 /// Faults are: a symbolic link, which is never followed; a file or folder that can't be read; anything else that
 /// is neither, or stands where one of the four has to be the other; a name that isn't UTF-8; and each folder
-/// entry from the 1,048,577th on that the feed reads. Want of memory inside a call of std is a fault as well, while
-/// the feed's own lists that can't grow are want of memory. Of one file it reads at most 67,108,865 bytes.
+/// entry from the 1,048,577th on that the feed reads. Out of memory inside a call of std is a fault as well, while
+/// the feed's own lists that can't grow are answered as out of memory. Of one file it reads at most 67,108,865 bytes.
 ///
-/// After a fault it goes on behind what failed, and after want of memory it is where it was.
+/// After a fault it goes on after what failed, and if it is out of memory it is where it was.
 #[derive(Drop)]
 pub struct FolderFeed<R> {
     walk: Walk<R>,

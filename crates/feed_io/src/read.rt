@@ -30,7 +30,7 @@ pub enum ReadFault {
     BadPath(u32),
     /// A file has this path, and one before it has it too, or stands above or below it.
     Twice(Path),
-    /// Want of memory.
+    /// Out of memory.
     Memory,
 }
 
@@ -122,7 +122,7 @@ pub fn read_all<F: Feed>(alloc: Global, feed: &mut F) -> Result<Files, ReadFault
 
 /// A law: a list of files without fault has no first fault, and any other list at most one.
 ///
-/// So what `read_all` answers is settled where the feed tells its files, but for a failing feed and want of memory.
+/// So what `read_all` answers is settled where the feed tells its files, except for a failing feed and being out of memory.
 pub fn one_reading()
     ensures faultless { (list : List FeedFile) (fault : ReadFault) → IsFaultless list → IsFirstReadFault list fault → ⊥ }
     ensures one { (list : List FeedFile) (a b : ReadFault) → IsFirstReadFault list a → IsFirstReadFault list b → a ≡ b }

@@ -12,7 +12,7 @@ use std::path::PathBuf;
 const MOST_BYTES: u64 = 67_108_865;
 
 /// The most folder entries that a walk reads.
-const MOST_ENTRIES: u32 = 1_048_576;
+const MOST_ENTRIES: usize = 1_048_576;
 
 /// A walk: what of the folder is still to be visited, the next of it last.
 #[derive(Drop)]
@@ -21,7 +21,7 @@ pub struct Walk<R> {
     folder: Bytes,
     has_begun: bool,
     to_visit: Vec<String>,
-    entries_left: u32,
+    entries_left: usize,
 }
 
 /// What stands at a path.
@@ -48,7 +48,7 @@ impl<R: AllocGlobal> Walk<R> {
 impl<R: Files + AllocGlobal + Clone + Drop> Walk<R> {
     /// The next file.
     ///
-    /// After a failure the walk goes on behind what failed, and after want of memory it is where it was.
+    /// After a failure the walk goes on after what failed, and if it is out of memory it is where it was.
     pub fn next(&mut self) -> Result<Option<FeedFile>, FeedError> {
         if !self.has_begun {
             self.to_visit = tops(self.rt.alloc())?;
@@ -80,7 +80,9 @@ impl<R: Files + AllocGlobal + Clone + Drop> Walk<R> {
             Some(Kind::File) => Ok(Some(self.read(at)?)),
             Some(Kind::Folder) => {
                 let mut inner = self.list(at)?;
+                let count = inner.len();
                 self.to_visit.append(&mut inner)?;
+                self.entries_left = self.entries_left.saturating_sub(count);
                 Ok(None)
             }
         }
@@ -118,16 +120,17 @@ impl<R: Files + AllocGlobal + Clone + Drop> Walk<R> {
         })
     }
 
-    /// The paths of what is directly in the folder at a path, the last first.
-    fn list(&mut self, at: &str) -> Result<Vec<String>, FeedError> {
-        let alloc = self.rt.alloc();
+    /// The paths of what is directly in the folder at a path, the last first. Fails if these are more entries than may
+    /// still be read.
+    fn list(&self, at: &str) -> Result<Vec<String>, FeedError> {
         let entries = fs::read_dir(&self.rt, self.place(at)?.as_path())?;
-        let mut paths = Vec::new(alloc);
+        let mut paths = Vec::new(self.rt.alloc());
         for entry in entries {
+            if paths.len() >= self.entries_left {
+                return Err(FeedError::Failed);
+            }
             let entry = entry?;
-            self.entries_left = self.entries_left.checked_sub(1).ok_or(FeedError::Failed)?;
-            let name = entry.file_name();
-            paths.push(format!(in alloc; "{at}/{name}")?)?;
+            paths.push(path_of(self.rt.alloc(), at, entry.file_name())?)?;
         }
         paths.sort_unstable();
         paths.reverse();
@@ -143,6 +146,11 @@ impl<R: Files + AllocGlobal + Clone + Drop> Walk<R> {
         place.push(at)?;
         Ok(place)
     }
+}
+
+/// The path of an entry of a folder.
+fn path_of(alloc: Global, folder: &str, name: &str) -> Result<String, FeedError> {
+    Ok(format!(in alloc; "{folder}/{name}")?)
 }
 
 /// What is visited first, the last first.
