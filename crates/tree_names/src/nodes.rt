@@ -1,6 +1,6 @@
 //! Whether two trees have the same at a path.
 ghost use Rattle.std.specs.Prelude.{◌≡◌};
-ghost use Rattle.tree_ops.specs.Tree.{node_at};
+ghost use Rattle.tree_ops.specs.Tree.{node_at, entry_at, text_at};
 ghost use Rattle.tree_names.specs.Changes.{is_node};
 ghost use Rattle.std.specs.Option.{option_copied};
 ghost use Rattle.tree_names.specs.Parts as parts;
@@ -12,12 +12,22 @@ use tree_ops::{Entry, TreeOps};
 pub(crate) fn is_same_node<T: TreeOps>(one: &T, other: &T, at: &Path) -> bool
     ensures { result ≡ is_node (node_at (T.tree one.now) at.now) (node_at (T.tree other.now) at.now) }
 {
-    are_parts(
-        one.lookup(at),
-        other.lookup(at),
-        one.text(at),
-        other.text(at),
-    )
+    let entry = one.lookup(at);
+    let other_entry = other.lookup(at);
+    let text = link_text(one, entry, at);
+    let other_text = link_text(other, other_entry, at);
+    are_parts(entry, other_entry, text, other_text)
+}
+
+/// The text of the link at a path, if a link stands there: nothing else is looked up twice.
+fn link_text<'t, T: TreeOps>(tree: &'t T, entry: Option<Entry>, at: &Path) -> Option<&'t [u8]>
+    requires { entry ≡ entry_at (T.tree tree.now) at.now }
+    ensures { option_copied result ≡ text_at (T.tree tree.now) at.now }
+{
+    match entry {
+        Some(Entry::Link) => tree.text(at),
+        _ => None,
+    }
 }
 
 fn are_parts(
