@@ -11,7 +11,7 @@ use std::os::fd::AsRawFd;
 use std::process::ExitCode;
 use std::rt::Files;
 
-/// Hands the words behind the program's name to the builder, and ends with its status. Nothing is written to standard
+/// Hands the words after the program's name to the builder, and ends with its status. Nothing is written to standard
 /// error, and `rootfs.img` is opened where an image is put alone.
 fn main(rt: HostRuntime) -> ExitCode {
     let _held = [held(&rt), held(&rt), held(&rt)];
@@ -39,7 +39,7 @@ fn build<R: Env + Files + Print + AllocGlobal + Clone + Drop>(rt: &R) -> Result<
     ))
 }
 
-/// The words behind the program's name, as their bytes.
+/// The words after the program's name, as their bytes.
 fn words<R: Env + AllocGlobal>(rt: &R) -> Result<Names, Memory> {
     let mut items = Vec::new(rt.alloc());
     for place in 1..usize::MAX {

@@ -17,7 +17,7 @@ use Rattle.br_run.specs.Answer.{IsAnswer, IsCommandAnswer, IsPossible, feed_fail
 use Rattle.br_run.specs.Out.{Gives, EndsEarly, IsRun}
 use Rattle.br_run.specs.Sinks.{Sinks, IsWritten, IsCutShort}
 
--- a fault that is neither the feed's nor want of memory is the list's
+-- a fault that is neither the feed's nor out of memory is the list's
 pub IsFirstReadFault-IsReading : (list : List FeedFile) (fault : ReadFault) → fault ≢ Feed → fault ≢ Memory → IsReading list (Err fault) → IsFirstReadFault list fault
 IsFirstReadFault-IsReading list Feed feed memory reading = absurd (feed refl)
 IsFirstReadFault-IsReading list Memory feed memory reading = absurd (memory refl)

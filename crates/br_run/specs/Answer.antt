@@ -125,7 +125,7 @@ IsAnswer words list answer =
     ⊎ ((command : Words) × IsCommand words command × IsCommandAnswer (is_run command) command list answer)
 
 -- what holds of every answer: an image is put where all went well alone; the answer to a failed feed is one; and neither
--- want of memory nor a failed sink is answered in words
+-- out of memory nor a failed sink is answered in words
 pub record IsPossible (answer : Answer) : Type 0 where
   pub image : answer.status ≢ Done → answer.image ≡ None
   pub feed : answer.status ≡ FeedFault → answer ≡ feed_failed

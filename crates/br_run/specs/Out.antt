@@ -21,7 +21,7 @@ pub record EndsEarly (IsRight : Answer → Type 0) (before now : ℕ) (held : Si
   pub is : (IsRight answer × (now ≤ before)) ⊎ ((answer ≡ feed_failed) × Rose before now)
   pub cut : IsCutShort answer held
 
--- what each status says by the answers that are right, where the feed had these counts of faults before and now: of want of memory another
+-- what each status says by the answers that are right, where the feed had these counts of faults before and now: of out of memory another
 -- clause speaks, and of a feed that failed too
 abbrev pub IsRun : (Answer → Type 0) → ℕ → ℕ → Status → Sinks → Type 0
 IsRun IsRight before now NoMemory held = Unit {0}

@@ -2,7 +2,7 @@
 //!
 //! What is answered is one definition over the words and the list of files, apart from how it is found. All texts
 //! are made before the first of them is put, the image first and then the report, so that a call which finds no
-//! memory leaves both sinks alone, and a report stands only behind a whole image.
+//! memory leaves both sinks alone, and a report stands only after a whole image.
 #![tactic(auto)]
 
 mod answer;

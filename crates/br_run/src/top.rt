@@ -20,7 +20,7 @@ use std::alloc::Global;
 
 /// Runs the builder: reads the files of a feed, and puts an image and a report.
 ///
-/// The words are those behind the program's name. `config` reports the lines of the configuration, `plan` the tasks in their order, and
+/// The words are those after the program's name. `config` reports the lines of the configuration, `plan` the tasks in their order, and
 /// the show commands the packages that are asked for; they put no image. `build` by one worker without a trace runs the tasks
 /// of the plan one after another. It puts the image of what the packages wrote if none failed and no path was overwritten. To other
 /// options of `build` the report says `fault not-yet`. The image is put first, and the report after it; both are made before the

@@ -12,7 +12,7 @@ use Rattle.br_words.specs.Answers.{Gives, IsReading}
 use Rattle.br_words.specs.Reading.{Reading, is_text, read, options, ended, shown, only_word, show, jobs, jobs_behind, behind_jobs, behind_trace, traced, workers_of}
 use Rattle.br_words.proofs.Workers.{if_cases, IsSaid, workers_of-said, IsWorkers-workers_of}
 
--- words up to a place that fit, and one behind them with which none fits
+-- words up to a place that fit, and one after them with which none fits
 pub record Stands (words : Names) (place : ℕ) : Type 0 where
   pub within : place ≤ length words
   pub front : Begins (take place words)
@@ -59,7 +59,7 @@ command-read _ _ (rdepends name) = refl
 one_worker : IsWorkers (codes "1") 1
 one_worker = one 49 1 (omega arith, refl) (omega arith)
 
--- behind `build -j N`
+-- after `build -j N`
 behind_jobs-read : (text : List ℕ) (workers : ℕ) → workers_of text ≡ Some workers → IsWorkers text workers → (words : Names)
     → IsRead (codes "build" ∷ codes "-j" ∷ text ∷ words) (behind_jobs words workers)
 unfolding read
@@ -81,7 +81,7 @@ behind_jobs-read text workers found is (word ∷ words) =
       stuck = λ rest more. rw found refl;
     }
 
--- behind `build -j`
+-- after `build -j`
 jobs-read : (words : Names) → IsRead (codes "build" ∷ codes "-j" ∷ words) (jobs 2 behind_jobs words)
 unfolding read
 jobs-read [] = record {
@@ -99,7 +99,7 @@ jobs-read (text ∷ words) = by_number (workers_of text) refl (workers_of-said t
       stuck = λ rest more. rw found refl;
     }
 
--- behind `build --trace -j`
+-- after `build --trace -j`
 traced_jobs-read : (words : Names) → IsRead (codes "build" ∷ codes "--trace" ∷ codes "-j" ∷ words) (jobs 3 traced words)
 unfolding read
 traced_jobs-read [] = record {
@@ -123,7 +123,7 @@ traced_jobs-read (text ∷ words) = by_number (workers_of text) refl (workers_of
       stuck = λ rest more. rw found refl;
     }
 
--- behind `build --trace`
+-- after `build --trace`
 trace-read : (words : Names) → IsRead (codes "build" ∷ codes "--trace" ∷ words) (behind_trace words)
 unfolding read
 trace-read [] = build _ 1 true traced_alone
@@ -136,7 +136,7 @@ trace-read (word ∷ words) =
       stuck = λ rest more. rw other refl;
     })
 
--- behind `build`
+-- after `build`
 options-read : (words : Names) → IsRead (codes "build" ∷ words) (options words)
 unfolding read
 options-read [] = build [] 1 false none

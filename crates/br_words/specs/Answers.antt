@@ -8,7 +8,7 @@ use Rattle.br_words.specs.declared.command.WordsFault.TheVariants.{At, Memory}
 use Rattle.br_words.specs.Command.{IsCommand, IsMisfit}
 use Rattle.br_words.specs.Reading.{Reading}
 
--- the words are the command, or the place is that of the first that doesn't fit; of want of memory nothing is said
+-- the words are the command, or the place is that of the first that doesn't fit; nothing is said of out of memory
 abbrev pub IsReading : Names → Result Words WordsFault → Type 0
 IsReading words (Ok command) = IsCommand words command
 IsReading words (Err (At place)) = IsMisfit words place

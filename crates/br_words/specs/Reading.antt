@@ -37,7 +37,7 @@ abbrev pub ended : ℕ → Words → Names → Reading
 ended place command [] = Ok command
 ended place command (word ∷ words) = Err place
 
--- the one word behind the first
+-- the one word after the first
 abbrev pub only_word : Names → Result (List ℕ) ℕ
 only_word [] = Err 1
 only_word (word ∷ []) = Ok word
@@ -47,7 +47,7 @@ abbrev pub shown : (List ℕ → Words) → Result (List ℕ) ℕ → Reading
 shown command (Ok word) = Ok (command word)
 shown command (Err place) = Err place
 
--- the number of workers that words begin with, at a place, and what is behind it
+-- the number of workers that words begin with, at a place, and what is after it
 abbrev pub jobs_behind : ℕ → Option ℕ → (ℕ → Reading) → Reading
 jobs_behind place None next = Err place
 jobs_behind place (Some workers) next = next workers
@@ -56,22 +56,22 @@ abbrev pub jobs : ℕ → (Names → ℕ → Reading) → Names → Reading
 jobs place next [] = Err place
 jobs place next (word ∷ words) = jobs_behind place (workers_of word) (next words)
 
--- behind `build -j N`
+-- after `build -j N`
 abbrev pub behind_jobs : Names → ℕ → Reading
 behind_jobs [] workers = Ok (Build workers false)
 behind_jobs (word ∷ words) workers = if is_text word (codes "--trace") then ended 4 (Build workers true) words else Err 3
 
--- behind `build --trace -j N`
+-- after `build --trace -j N`
 abbrev pub traced : Names → ℕ → Reading
 traced words workers = ended 4 (Build workers true) words
 
--- behind `build --trace`
+-- after `build --trace`
 abbrev pub behind_trace : Names → Reading
 behind_trace [] = Ok (Build 1 true)
 behind_trace (word ∷ words) =
     if is_text word (codes "-j") then jobs 3 traced words else Err 2
 
--- behind `build`
+-- after `build`
 abbrev pub options : Names → Reading
 options [] = Ok (Build 1 false)
 options (word ∷ words) =

@@ -48,7 +48,7 @@ impl From<Memory> for WordsFault {
 }
 
 impl Words {
-    /// Reads the words behind the program's name.
+    /// Reads the words after the program's name.
     pub fn read(words: &[Bytes]) -> Result<Words, WordsFault>
         ensures { IsReading words.now result }
     {
@@ -104,7 +104,7 @@ fn show(command: &Bytes, rest: &[Bytes]) -> Result<Words, WordsFault>
     Err(WordsFault::At(0))
 }
 
-/// The one word behind the first.
+/// The one word after the first.
 fn only_word(rest: &[Bytes]) -> Result<Bytes, WordsFault>
     ensures { Tells (reading.only_word rest.now) result }
 {

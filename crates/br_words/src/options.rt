@@ -9,7 +9,7 @@ use br_path::Bytes;
 /// The most workers that there may be.
 const MOST_WORKERS: u32 = 64;
 
-/// Reads what stands behind `build`.
+/// Reads what stands after `build`.
 pub(crate) fn build(words: &[Bytes]) -> Result<Words, WordsFault>
     ensures { Gives (reading.options words.now) result }
 {
@@ -28,7 +28,7 @@ pub(crate) fn build(words: &[Bytes]) -> Result<Words, WordsFault>
     Err(WordsFault::At(1))
 }
 
-// Behind `build -j`.
+// After `build -j`.
 fn jobs(words: &[Bytes]) -> Result<Words, WordsFault>
     ensures { Gives (reading.jobs 2 reading.behind_jobs words.now) result }
 {
@@ -41,7 +41,7 @@ fn jobs(words: &[Bytes]) -> Result<Words, WordsFault>
     behind_jobs(rest, workers)
 }
 
-// Behind `build -j N`.
+// After `build -j N`.
 fn behind_jobs(words: &[Bytes], workers: u32) -> Result<Words, WordsFault>
     ensures { Gives (reading.behind_jobs words.now workers) result }
 {
@@ -57,7 +57,7 @@ fn behind_jobs(words: &[Bytes], workers: u32) -> Result<Words, WordsFault>
     Err(WordsFault::At(3))
 }
 
-// Behind `build --trace`.
+// After `build --trace`.
 fn behind_trace(words: &[Bytes]) -> Result<Words, WordsFault>
     ensures { Gives (reading.behind_trace words.now) result }
 {
@@ -73,7 +73,7 @@ fn behind_trace(words: &[Bytes]) -> Result<Words, WordsFault>
     Err(WordsFault::At(2))
 }
 
-// Behind `build --trace -j`.
+// After `build --trace -j`.
 fn traced_jobs(words: &[Bytes]) -> Result<Words, WordsFault>
     ensures { Gives (reading.jobs 3 reading.traced words.now) result }
 {
@@ -86,7 +86,7 @@ fn traced_jobs(words: &[Bytes]) -> Result<Words, WordsFault>
     traced(rest, workers)
 }
 
-// Behind both options.
+// After both options.
 fn traced(words: &[Bytes], workers: u32) -> Result<Words, WordsFault>
     ensures { Gives (reading.traced words.now workers) result }
 {

@@ -18,7 +18,7 @@ pub fn plan_text(alloc: Global, plan: &Plan) -> Result<Bytes, Memory>
     Ok(Bytes { items })
 }
 
-// Puts the line of a task behind others.
+// Puts the line of a task after others.
 fn push_line(items: &mut Vec<u8>, plan: &Plan, task: u32) -> Result<(), AllocError>
     requires { task < length plan.now.rows }
     ensures { OnOk result (items.new.items ≡ items.old.items ++ text.task_line plan.now task) }
@@ -29,7 +29,7 @@ fn push_line(items: &mut Vec<u8>, plan: &Plan, task: u32) -> Result<(), AllocErr
     Ok(())
 }
 
-// Puts the tasks that a task needs behind it.
+// Puts the tasks that a task needs after it.
 fn push_needs(items: &mut Vec<u8>, plan: &Plan, task: u32) -> Result<(), AllocError>
     requires { task < length plan.now.rows }
     ensures { OnOk result (items.new.items ≡ items.old.items ++ text.needs_text plan.now task) }
@@ -75,7 +75,7 @@ pub fn names_text(alloc: Global, plan: &Plan, tasks: &Numbers) -> Result<Bytes, 
     Ok(Bytes { items })
 }
 
-// Puts the line of a task's package behind others.
+// Puts the line of a task's package after others.
 fn push_name(items: &mut Vec<u8>, plan: &Plan, task: u32) -> Result<(), AllocError>
     requires { task < length plan.now.rows }
     ensures { OnOk result (items.new.items ≡ items.old.items ++ text.name_line plan.now task) }

@@ -72,7 +72,7 @@ module _ (count : ℕ) (names : ℕ → ℕ → Bool) (closed : (s t : ℕ) → 
       bottom_from past count [] t tt (IsDistinct-more [] t refl none_apart) (λ q there. elim (cases_eq q t) [ inl is ↦ subst (λ x. x < count) (sym is) below | inr other ↦ absurd (false≢true (sym (is_in-other [] t q other) ∙ there)) ])
       (omega arith) off below
 
-  -- the nodes one behind the other, from a list of some
+  -- the nodes one after the other, from a list of some
   order_from : (fuel : ℕ) (past : List ℕ) → AreInOrder names past → IsDistinct eqb past → ((q : ℕ) → is_in past q ≡ true → q < count) → length past + fuel ≡ count + 1 → (order : List ℕ) × IsOrder count names order
   order_from zero past all apart within room = absurd (omega (arith, length-le_from_distinct_below past count apart within))
   order_from (suc fuel) past all apart within room =

@@ -190,7 +190,7 @@ module _ (rows : Rows) (marks : List Mark) (order : List ℕ) where
           in_order = d.in_order;
         }
 
-    -- the last node of the path may stand behind the order where its row is looked through
+    -- the last node of the path may stand after the order where its row is looked through
     top_follows : mark_at marks top ≡ Open 0 → MayFollow (names rows) order top
     top_follows mark = record {
       fresh = λ there. false≢true (sym (d.done_is top ∙ ap is_done mark) ∙ is_in-from order top there);

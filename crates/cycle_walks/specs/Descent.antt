@@ -59,7 +59,7 @@ next_in row Done = None
 
 -- ---- what the steps keep
 
--- each node is named by the one behind it
+-- each node is named by the one after it
 abbrev pub IsLinked : (ℕ → ℕ → Bool) → List ℕ → Type 0
 IsLinked names [] = Unit {0}
 IsLinked names (node ∷ []) = Unit {0}

@@ -5,16 +5,16 @@ use Rattle.cycle_walks.specs.declared.depth_first.Found.TheVariants.{Order, Cycl
 use Rattle.cycle_walks.specs.Graph.{Rows, names}
 use Rattle.cycle_walks.specs.Walks.{OnCycle}
 
--- a node may stand behind a list: it does not stand in it, and all that it names do
+-- a node may stand after a list: it does not stand in it, and all that it names do
 pub record MayFollow (names : ℕ → ℕ → Bool) (past : List ℕ) (node : ℕ) : Type 0 where
   pub fresh : Contains past node → ⊥
   pub named : (other : ℕ) → names node other ≡ true → Contains past other
 
--- each node of a list may stand behind those before it
+-- each node of a list may stand after those before it
 abbrev pub AreInOrder : (ℕ → ℕ → Bool) → List ℕ → Type 0
 AreInOrder names order = (i : ℕ) → i < length order → MayFollow names (take i order) (slice_index order i)
 
--- an order of the nodes below a count: it has them and no others, each once, and each behind all that it names
+-- an order of the nodes below a count: it has them and no others, each once, and each after all that it names
 pub record IsOrder (count : ℕ) (names : ℕ → ℕ → Bool) (order : List ℕ) : Type 0 where
   pub nodes : (node : ℕ) → Contains order node ↔ (node < count)
   pub in_order : AreInOrder names order

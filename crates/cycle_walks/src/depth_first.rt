@@ -2,7 +2,7 @@
 //!
 //! The search keeps the nodes that are open in a path: each was met from the one before it. It looks at the next place
 //! in the row of the last of them, from its end to its front. A node there that isn't met is met; one that is open closes a cycle; one that is
-//! done is passed. Where its row is looked through, the last node is done, and stands in the order behind all that it names.
+//! done is passed. Where its row is looked through, the last node is done, and stands in the order after all that it names.
 ghost use Rattle.std.specs.Prelude.{List, [], ℕ, ◌≡◌, ◌<◌, Bool, true, Some, IfOk, OnOk, length};
 ghost use Rattle.cycle_walks.specs.Descent.{next_in};
 ghost use Rattle.cycle_walks.specs.Graph.{row, IsGraph};
@@ -16,7 +16,7 @@ use std::alloc::Global;
 /// What a graph has: an order of its nodes, or a cycle.
 #[derive(Debug, Drop)]
 pub enum Found {
-    /// Each node once, behind all that it names.
+    /// Each node once, after all that it names.
     Order(Numbers),
     /// A node that is on a cycle.
     Cycle(u32),

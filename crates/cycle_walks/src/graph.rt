@@ -55,7 +55,7 @@ impl Graph {
         self.rows[node as usize].items.as_slice()
     }
 
-    /// Lets a node name another, at the end of its row. After want of memory the graph is as before.
+    /// Lets a node name another, at the end of its row. If it is out of memory, the graph is as before.
     pub fn add(&mut self, node: u32, other: u32) -> Result<(), Memory>
         requires node { node < length self.old }
         requires other { other < length self.old }
@@ -66,7 +66,7 @@ impl Graph {
         Ok(())
     }
 
-    /// Lets a node name another, at a place of its row. After want of memory the graph is as before.
+    /// Lets a node name another, at a place of its row. If it is out of memory, the graph is as before.
     pub fn insert(&mut self, node: u32, place: usize, other: u32) -> Result<(), Memory>
         requires node { node < length self.old }
         requires place { place ≤ length (row self.old node) }

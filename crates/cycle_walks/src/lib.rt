@@ -2,7 +2,7 @@
 //!
 //! A graph's nodes are numbered from 0, and each has a row of the nodes that it names. A walk goes from a node to one
 //! that it names; a node is on a cycle where a walk of one or more steps leads back to it. An order of the nodes has
-//! each of them once, behind all that it names: there is one exactly where no node is on a cycle.
+//! each of them once, after all that it names: there is one exactly where no node is on a cycle.
 //!
 //! No call recurses, so a long walk costs no stack.
 #![tactic(auto)]

@@ -50,7 +50,7 @@ one_order needs a b x y =
 
 -- ---- none where a task is on a cycle
 
--- each task once, behind all that it needs
+-- each task once, after all that it needs
 pub plain_order : (needs : Needs) (order : List ℕ) → IsOrder needs order → IsPlainOrder (length needs) (names needs) order
 plain_order needs order is = record {
   nodes = λ t. (
@@ -119,7 +119,7 @@ module _ (needs : Needs) (graph : IsGraph needs) (acyclic : (t : ℕ) → OnCycl
             })))
       ]
 
-  -- the tasks one behind the other, from a list of some
+  -- the tasks one after the other, from a list of some
   order_on : (fuel : ℕ) (past : List ℕ) → ((i : ℕ) → i < length past → IsLeast (IsReady needs (take i past)) (get_or past i 0)) → IsDistinct eqb past → ((t : ℕ) → is_in past t ≡ true → t < length needs)
       → length past + fuel ≡ length needs + 1 → (order : List ℕ) × IsOrder needs order
   order_on zero past least apart inside room = absurd (omega (arith, length-le_from_distinct_below past (length needs) apart inside))

@@ -6,13 +6,13 @@ use Rattle.dep_graph.specs.declared.graph.OrderFault.{OrderFault}
 use Rattle.dep_graph.specs.declared.graph.OrderFault.TheVariants.{CycleAt, Memory}
 use Rattle.dep_graph.specs.Needs.{Needs, needs_of}
 
--- a task is ready behind others: it isn't among them, and all that it needs are
+-- a task is ready after others: it isn't among them, and all that it needs are
 pub record IsReady (needs : Needs) (past : List ℕ) (task : ℕ) : Type 0 where
   pub inside : task < length needs
   pub fresh : Contains past task → ⊥
   pub met : (need : ℕ) → Contains (needs_of needs task) need → Contains past need
 
--- the order of the tasks: it has all of them, and at each place stands the least task that is ready behind those before it
+-- the order of the tasks: it has all of them, and at each place stands the least task that is ready after those before it
 pub record IsOrder (needs : Needs) (order : List ℕ) : Type 0 where
   pub all : (task : ℕ) → task < length needs → Contains order task
   pub least : (i : ℕ) → i < length order → IsLeast (IsReady needs (take i order)) (slice_index order i)

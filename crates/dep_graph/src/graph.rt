@@ -32,7 +32,7 @@ impl Model for Graph {
 pub enum OrderFault {
     /// The least task that leads back to itself by needs.
     CycleAt(u32),
-    /// Want of memory.
+    /// Out of memory.
     Memory,
 }
 
@@ -67,7 +67,7 @@ impl Graph {
         self.needs.count()
     }
 
-    /// Lets a task need another. Where it does so already, nothing changes, and neither after want of memory.
+    /// Lets a task need another. Where it does so already, nothing changes, nor if it is out of memory.
     pub fn need(&mut self, task: u32, on: u32) -> Result<(), Memory>
         requires task { task < length self.old }
         requires on { on < length self.old }

@@ -160,7 +160,7 @@ fn add_user(users: &mut cycle_walks::Graph, task: u32, needs: &[u32]) -> Result<
     Ok(())
 }
 
-/// Tasks have an order exactly where none of them is on a cycle, and one at most. It has each once, behind all that it
+/// Tasks have an order exactly where none of them is on a cycle, and one at most. It has each once, after all that it
 /// needs.
 pub fn one_order()
     ensures same { (needs : Needs) (order other : List ℕ) → IsOrder needs order → IsOrder needs other → order ≡ other }

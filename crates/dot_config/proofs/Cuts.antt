@@ -1,4 +1,4 @@
--- What stands behind a prefix, before a suffix, and round the first `=`.
+-- What stands after a prefix, before a suffix, and round the first `=`.
 use Rattle.std.proofs.Common.{ℕ, ◌≡◌, ◌+◌, ◌-◌, ◌<◌, ◌≤◌, Bool, true, false, cond, List, [], ◌∷◌, ◌++◌, length, take, drop, get_or, Option, Some, None, refl, sym, ap, subst, ◌∙◌, ⊎_elim, inl, inr, arith, length-append}
 use Rattle.std.specs.Prelude.{◌==◌, ◌⊎◌, All, position}
 use Rattle.std.specs.List.{position_or_len}

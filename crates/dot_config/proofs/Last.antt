@@ -81,7 +81,7 @@ apart (wish ∷ later) =
     AllPairs-choice (λ one other. one.symbol ≢ other.symbol) (asks_for wish.symbol later) wish (last_wishes later)
     (λ none. All-last_wishes (λ other. wish.symbol ≢ other.symbol) later (others wish.symbol later none)) (apart later)
 
--- wishes on lines behind a number
+-- wishes on lines after a number
 weaker : (number : ℕ) (wishes : List Wish) → All (λ wish. number + 1 ≤ wish.line) wishes → All (λ wish. number ≤ wish.line) wishes
 weaker number wishes = All-weaker (λ wish. number + 1 ≤ wish.line) (λ wish. number ≤ wish.line) (λ wish above. omega (arith, above)) wishes
 

@@ -8,7 +8,7 @@ use Rattle.dot_config.specs.Line.{IsQuoted, nothing, plain, escaped}
 use Rattle.dot_config.specs.SaidBy.{unquoted, next_byte, put_byte, is_plain}
 use Rattle.dot_config.proofs.Cuts.{cond_cases, some_then, some_same}
 
--- what is read behind bytes that were read
+-- what is read after bytes that were read
 abbrev pub put_bytes : List ℕ → Option (List ℕ) → Option (List ℕ)
 put_bytes front (Some text) = Some (front ++ text)
 put_bytes front None = None

@@ -87,7 +87,7 @@ legal [] (s ∷ said) forms = absurd forms
 legal (line ∷ lines) [] forms = absurd forms
 legal (line ∷ lines) (s ∷ said) forms = All-cons HasForm line lines (s, forms.0) (legal lines said forms.1)
 
--- a line without a form, behind lines that have one
+-- a line without a form, after lines that have one
 pub first_fault : (text : List ℕ) (raws : List (Bor (List ℕ))) (count number : ℕ) (raw : Bor (List ℕ)) (wishes : List Wish) → texts raws ≡ raw_lines text → count < length raws → number ≡ count + 1 → AreRead raws count wishes →
     (HasForm (get_or raws count raw).now → ⊥) → IsFirstFault text number
 first_fault text raws count number raw wishes same below is read shut =
@@ -148,7 +148,7 @@ one_fault text number other is too =
     let same : length is.front ≡ length too.front = same_front is.front too.front is.back too.back is.line too.line (sym is.cut ∙ too.cut) is.legal too.legal is.fault too.fault in
     is.place ∙ ap (λ n. n + 1) same ∙ sym too.place
 
--- a line behind others is among the lines
+-- a line after others is among the lines
 middle : (front back : List (List ℕ)) (line : List ℕ) → All HasForm (front ++ line ∷ back) → HasForm line
 middle [] back line all = All-head HasForm line back all
 middle (f ∷ front) back line all = middle front back line (All-tail HasForm f (front ++ line ∷ back) all)

@@ -104,7 +104,7 @@ line_form symbol (Quoted text) name line = (name, (escaped text, escaped_is text
 abbrev lines_text : List Pair → List ℕ
 lines_text ws = flat_map (λ (w : Pair). wish_text w.0 w.1 ++ 10 ∷ []) ws
 
--- the lines of the text, and an empty one behind the last newline
+-- the lines of the text, and an empty one after the last newline
 lines_of : (ws : List Pair) → All IsLined ws → raw_lines (lines_text ws) ≡ map (λ (w : Pair). wish_text w.0 w.1) ws ++ [] ∷ []
 unfolding raw_lines
 lines_of [] lined = refl

@@ -9,7 +9,7 @@ use Rattle.dot_config.specs.declared.line.Said.{Said}
 use Rattle.dot_config.specs.declared.line.Said.TheVariants.{Nothing, Asks}
 use Rattle.dot_config.specs.Line.{is_symbol, is_word, is_blank}
 
--- what stands behind the prefix
+-- what stands after the prefix
 abbrev pub behind : List ℕ → List ℕ → Option (List ℕ)
 behind prefix text = if is_text (take (length prefix) text) prefix then Some (drop (length prefix) text) else None
 
@@ -40,7 +40,7 @@ is_comment (byte ∷ bytes) = byte == 35
 abbrev pub is_plain : ℕ → Bool
 is_plain byte = not (byte == 34) && not (byte == 92)
 
--- the next byte of a quoted text, and what stands behind it; none at the closing quote, and where the text ends
+-- the next byte of a quoted text, and what stands after it; none at the closing quote, and where the text ends
 unfoldable pub next_byte : List ℕ → Option (ℕ × List ℕ)
 next_byte [] = None
 next_byte (byte ∷ []) = if is_plain byte then Some (byte, []) else None
@@ -65,7 +65,7 @@ unquoted (byte ∷ next ∷ rest) =
 abbrev pub word_of : List ℕ → Option WishValue
 word_of word = if is_word word then Some (Word word) else None
 
--- what stands behind the `=`
+-- what stands after the `=`
 unfoldable pub value_of : List ℕ → Option WishValue
 value_of [] = None
 value_of (byte ∷ bytes) = if byte == 34 then option_map Quoted (unquoted bytes) else word_of (byte ∷ bytes)

@@ -157,7 +157,7 @@ fn unquoted(alloc: Global, quoted: &[u8]) -> Result<Option<Bytes>, Memory>
     Ok(None)
 }
 
-// The next byte of a quoted text, and what stands behind it; none at a quote that nothing quotes, and where the text ends.
+// The next byte of a quoted text, and what stands after it; none at a quote that nothing quotes, and where the text ends.
 #[tactic(auto, unfolding(crate::specs::SaidBy::next_byte))]
 fn next_byte(quoted: &[u8]) -> Option<(u8, &[u8])>
     ensures { option_map seen_byte result ≡ next_byte quoted.now }

@@ -48,7 +48,7 @@ fn lines_of(alloc: Global, text: &[u8]) -> Result<Vec<&[u8]>, AllocError>
     text.split(|byte| *byte == b'\n').collect(alloc)
 }
 
-// Puts the wish of the line of this number behind the others.
+// Puts the wish of the line of this number after the others.
 fn put_wish(alloc: Global, all: &mut Vec<Wish>, number: u32, line: &[u8]) -> Result<(), WishError>
     ensures ok { OnOk result ((said : Said) × IsLine line.now said × (all.new.items ≡ all.old.items ++ wish_at number said)) }
     ensures fault { IfErr result (IsLineFault line.now number) }

@@ -36,7 +36,7 @@ fn visible_symbols(alloc: Global, menu: &Menu, values: &Values) -> Result<Symbol
     Ok(visible)
 }
 
-// Puts the line of a value behind the text, if it has one.
+// Puts the line of a value after the text, if it has one.
 fn put_line(text: &mut Vec<u8>, symbol: &[u8], valued: &Valued, visible: bool) -> Result<(), Memory>
     ensures { OnOk result (text.new.items ≡ text.old.items ++ line_of symbol.now (wish_for visible valued.now)) }
 {

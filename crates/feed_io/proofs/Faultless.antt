@@ -71,7 +71,7 @@ file_at P (file ∷ list) q all there = elim (IsFile-insert (files_of list) (pla
 pub place_of-filled : (file : FeedFile) → place_of file ≡ [] → ⊥
 place_of-filled file none = omega (arith, length-slice_split (λ byte. nat_eq byte 47) file.path, ap length none)
 
--- each file of a list is apart from the one behind it
+-- each file of a list is apart from the one after it
 pub All-apart : (list : List FeedFile) (file : FeedFile) → AllPairs AreApart (list ++ file ∷ []) → All (λ other. AreApart other file) list
 All-apart list file apart = λ k d below.
     subst (λ other. AreApart other file) (get_or_append_left list (file ∷ []) d k below)

@@ -36,7 +36,7 @@ no_fault before file (BadPath number) whole has = has.1 (last_path before file w
 no_fault before file (Twice at) whole has = last_free before file whole has.2
 no_fault before file TooLarge whole has = omega (arith, has.3, whole.small, total_size-push before file)
 
--- a file has at most one fault behind the same files
+-- a file has at most one fault after the same files
 one_fault : (before : List FeedFile) (file : FeedFile) (a b : ReadFault) → HasFault before file a → HasFault before file b → a ≡ b
 one_fault before file Feed b first second = absurd first
 one_fault before file Memory b first second = absurd first

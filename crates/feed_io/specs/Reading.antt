@@ -30,7 +30,7 @@ pub record IsFaultless (list : List FeedFile) : Type 0 where
   pub apart : AllPairs AreApart list
   pub small : total_size list ≤ 67108864
 
--- the fault of a file behind a faultless list, the first of these: one file too many; a text that is no path, by the file's
+-- the fault of a file after a faultless list, the first of these: one file too many; a text that is no path, by the file's
 -- number from 0; a path at, above or below one that is there; too many bytes together
 abbrev pub HasFault : List FeedFile → FeedFile → ReadFault → Type 0
 HasFault before file Feed = ⊥
@@ -51,7 +51,7 @@ pub record IsFirstReadFault (list : List FeedFile) (fault : ReadFault) : Type 0 
   pub faultless : IsFaultless before
   pub cause : HasFault before file fault
 
--- what reading a list answers: its files where it has no fault, else its fault; a failing feed and want of memory may be
+-- what reading a list answers: its files where it has no fault, else its fault; a failing feed and out of memory may be
 -- answered whatever the list
 abbrev pub IsReading : List FeedFile → Result FileMap ReadFault → Type 0
 IsReading list (Ok files) = IsFaultless list × (files ≡ files_of list)

@@ -21,7 +21,7 @@ pub record IsBegun (told left : Option (List FeedFile)) (before : List FeedFile)
   pub rest : (list : List FeedFile) → told ≡ Some list → (behind : List FeedFile) × (list ≡ before ++ behind) × (left ≡ Some behind)
   pub front : IsTaken before number taken
 
--- why the file behind those taken isn't taken; want of memory may be answered whatever the file
+-- why the file after those taken isn't taken; out of memory may be answered whatever the file
 abbrev pub IsRefused : List FeedFile → FeedFile → ReadFault → Type 0
 IsRefused before file Feed = ⊥
 IsRefused before file Memory = Unit {0}

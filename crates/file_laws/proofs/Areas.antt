@@ -8,7 +8,7 @@ use Rattle.tree_ops.specs.Change.{Change, State, changed}
 use Rattle.tree_worlds.specs.declared.reason.Reason.TheVariants.{Operand, Change as for_change}
 use Rattle.tree_worlds.specs.World.{WorldData, AreaTrees, may_change, is_asked, tree_in, with_tree, state_in, with_state, both_mapped, acted}
 
--- an answer behind two tests passed both
+-- an answer after two tests passed both
 guarded : {W S F E : Type 0} (put : S → W) (lift : F → E) (first second : E) (new : W) (may is : Bool) (outcome : Result S F)
     → cond {A = Result W E} (not may) (Err first) (cond (not is) (Err second) (both_mapped put lift outcome)) ≡ Ok new
     → (may ≡ true) × (is ≡ true) × (state : S) × (outcome ≡ Ok state) × (put state ≡ new)

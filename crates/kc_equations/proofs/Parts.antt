@@ -1,4 +1,4 @@
--- Values that are found one by one, each symbol behind all that its equation names: in the end they are the solution.
+-- Values that are found one by one, each symbol after all that its equation names: in the end they are the solution.
 use Rattle.std.proofs.Common.{ℕ, ◌≡◌, true, false, cond, List, [], ◌∷◌, ◌++◌, Option, Some, None, is_some, refl, sym, ap, subst, ◌∙◌, ⊎_elim}
 use Rattle.std.specs.Option.{option_or}
 use Rattle.std.proofs.lemmas.Bool.{cases_Bool, false≢true, true≢false}

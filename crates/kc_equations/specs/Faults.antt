@@ -55,7 +55,7 @@ is_int BoolKind = false
 is_int TextKind = false
 is_int IntKind = true
 
--- an int whose text isn't empty and isn't 1 to 18 digits, perhaps behind a `-`
+-- an int whose text isn't empty and isn't 1 to 18 digits, perhaps after a `-`
 abbrev pub is_bad : Valued → Bool
 is_bad v = is_int v.kind && not (length v.text == 0) && not (are_digits (behind_sign v.text))
 
@@ -73,7 +73,7 @@ NoNamedValue menu = (symbol : List ℕ) → is_named_value menu.entries symbol �
 abbrev pub NoCycle : Declared → Type 0
 NoCycle menu = (symbol : List ℕ) → ¬ (OnCycle (names menu) symbol)
 
--- each fault has the least of its symbols, and none of those before it comes; want of memory may come at any time
+-- each fault has the least of its symbols, and none of those before it comes; out of memory may come at any time
 abbrev pub IsFirstFault : Declared → List Wish → SolveFault → Type 0
 IsFirstFault menu wishes (SelectOfChoice symbol) = IsLeast (λ s. is_named_member menu.entries s ≡ true) symbol
 IsFirstFault menu wishes (SelectOfValue symbol) = NoNamedMember menu × IsLeast (λ s. is_named_value menu.entries s ≡ true) symbol
@@ -116,7 +116,7 @@ abbrev pub IsSolvedOnce : Declared → List Wish → Type 0
 IsSolvedOnce menu wishes =
     (values others : Table) (forced rest : List (List ℕ)) → IsSolved menu wishes values forced → IsSolved menu wishes others rest → values ≡ others
 
--- one that isn't has one first fault, besides want of memory
+-- one that isn't has one first fault, besides out of memory
 abbrev pub HasOneFault : Declared → List Wish → Type 0
 HasOneFault menu wishes =
     (fault other : SolveFault) → fault ≢ Memory → other ≢ Memory → IsFirstFault menu wishes fault → IsFirstFault menu wishes other → fault ≡ other

@@ -12,7 +12,7 @@ use Rattle.kc_menu.specs.declared.menu.KcEntry.{KcEntry}
 use Rattle.kc_menu.specs.declared.wishes.Wish.{Wish}
 use Rattle.kc_equations.specs.Equation.{entries_of, equation}
 
--- a symbol behind others, unless it is one of them
+-- a symbol after others, unless it is one of them
 abbrev pub put_symbol : List (List ℕ) → List ℕ → List (List ℕ)
 put_symbol symbols symbol = if list_any (is_text symbol) symbols then symbols else symbols ++ symbol ∷ []
 

@@ -13,9 +13,9 @@ pub enum SolveFault {
     SelectOfValue(Bytes),
     /// The symbol's equation names it, or names one whose equation does, and so on.
     Cycle(Bytes),
-    /// The text of an int isn't empty, and isn't 1 to 18 digits, perhaps behind a `-`.
+    /// The text of an int isn't empty, and isn't 1 to 18 digits, perhaps after a `-`.
     BadNumber(Bytes),
-    /// Want of memory.
+    /// Out of memory.
     Memory,
 }
 

@@ -49,7 +49,7 @@ compared_same a b q rest n is room = ap (λ x. given x None (λ r. Some (Same a 
 compared_differ : (a b : Atom) (q : Part) (rest : List Part) (n : ℕ) → IsAtom b q → 1 ≤ n → compared a (DifferPart ∷ q ∷ rest) n ≡ Some (Differ a b, behind rest (n - 1))
 compared_differ a b q rest n is room = ap (λ x. given x None (λ r. Some (Differ a r.0, r.1))) (atom_reads b q rest n is room)
 
--- an atom, and what is made of it and the parts behind it
+-- an atom, and what is made of it and the parts after it
 simple_begins : (a : Atom) (p : Part) (rest : List Part) (n : ℕ) → IsAtom a p → 1 ≤ n → simple (behind (p ∷ rest) n) ≡ compared a rest (n - 1)
 unfolding simple
 simple_begins a p rest n is room = ap (λ x. given x None (λ r. compared r.0 r.1.parts r.1.atoms)) (atom_reads a p rest n is room)

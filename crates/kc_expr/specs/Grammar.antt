@@ -56,7 +56,7 @@ pub record IsCondition (e : Expr) (text : List Part) : Type 0 where
   pub written : IsDisjunction (IsItem 64) e text
   pub few : atoms text ≤ 1024
 
--- behind a condition stands no operator that would go on with it
+-- after a condition stands no operator that would go on with it
 abbrev pub EndsCondition : List Part → Type 0
 EndsCondition (OrPart ∷ rest) = ⊥
 EndsCondition (AndPart ∷ rest) = ⊥

@@ -50,7 +50,7 @@ compared a parts atoms = Some (Holds a, behind parts atoms)
 unfoldable pub simple : Left → Reading Expr
 simple l = given (atom l) None (λ r. compared r.0 r.1.parts r.1.atoms)
 
--- the parts behind an operator
+-- the parts after an operator
 abbrev pub behind_and : List Part → ℕ → Option Left
 behind_and (AndPart ∷ parts) atoms = Some (behind parts atoms)
 behind_and _ atoms = None
@@ -64,7 +64,7 @@ behind_close (Close ∷ parts) atoms = Some (behind parts atoms)
 behind_close _ atoms = None
 
 module _ (after : List Part → ℕ → Option Left) (join : Expr → Expr → Expr) (item : Left → Reading Expr) where
-  -- so many items more at most, each behind an operator, joined from the left
+  -- so many items more at most, each after an operator, joined from the left
   unfoldable pub more : ℕ → Expr → Left → Reading Expr
   more zero e l = given (after l.parts l.atoms) (Some (e, l)) (λ _. None)
   more (suc n) e l =
@@ -101,6 +101,6 @@ unfoldable pub item : ℕ → Left → Reading Expr
 item zero l = simple l
 item (suc depth) l = deeper_in (item depth) l.parts l.atoms
 
--- the condition that parts begin with, and the parts behind it; none where they begin with no condition
+-- the condition that parts begin with, and the parts after it; none where they begin with no condition
 unfoldable pub expression : List Part → Option (Expr × List Part)
 expression parts = given (disjunction (item 64) (behind parts 1024)) None (λ r. Some (r.0, r.1.parts))

@@ -12,6 +12,6 @@ shown l = record { parts = l.parts.now; atoms = l.atoms }
 abbrev pub seen : {A : Type 0} → A × Left → A × Seen
 seen r = (r.0, shown r.1)
 
--- a condition and the parts behind it
+-- a condition and the parts after it
 abbrev pub front : Expr × Bor (List Part) → Expr × List Part
 front r = (r.0, r.1.now)

@@ -25,9 +25,9 @@ pub struct Left<'a> {
     atoms: u32,
 }
 
-/// The condition that parts begin with, and the parts behind it; none where they begin with no condition.
+/// The condition that parts begin with, and the parts after it; none where they begin with no condition.
 ///
-/// It is the longest one: an operator behind a condition goes on with it. The time is proportional to the parts that
+/// It is the longest one: an operator after a condition goes on with it. The time is proportional to the parts that
 /// the condition takes.
 #[tactic(auto, unfolding(crate::specs::Read::expression))]
 pub fn expression(alloc: Global, parts: &[Part]) -> Result<Option<(Expr, &[Part])>, Memory>

@@ -11,7 +11,7 @@ pub enum WishValue {
     No,
     /// A bare word.
     Word(Bytes),
-    /// A quoted text, without the quotes and the backslashes that quote the byte behind them.
+    /// A quoted text, without the quotes and the backslashes that quote the byte after them.
     Quoted(Bytes),
 }
 

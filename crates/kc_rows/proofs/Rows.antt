@@ -17,7 +17,7 @@ use Rattle.kc_rows.specs.declared.row.Row.{Row}
 use Rattle.kc_rows.proofs.Single.{one_part, one_word}
 use Rattle.kc_rows.proofs.Words.{same}
 
--- a condition with a tail behind it is read, and the tail is left
+-- a condition with a tail after it is read, and the tail is left
 begun_is : (value e : Expr) (text tail : List Part) → IsCondition value text → IsTail e tail → expression (text ++ tail) ≡ Some (value, tail)
 begun_is value _ text _ h table.nothing = condition_reads value text [] h tt
 begun_is value _ text _ h (table.condition e behind t) = condition_reads value text (word (codes "if") ∷ behind) h tt

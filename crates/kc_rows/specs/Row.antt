@@ -1,4 +1,4 @@
--- The rows of the table of lines. Each function here is given the parts behind a line's first word.
+-- The rows of the table of lines. Each function here is given the parts after a line's first word.
 use Rattle.std.specs.Prelude.{ℕ, ◌+◌, Bool, ◌==◌, ◌&&◌, nat_lt, List, [], ◌∷◌, length, Option, Some, None, codes, if◌then◌else◌}
 use Rattle.std.specs.Option.{option_map}
 use Rattle.std.specs.List.{list_all}
@@ -17,7 +17,7 @@ use Rattle.kc_rows.specs.declared.keyword.Keyword.TheVariants.{MainMenu as KeyMa
 use Rattle.kc_rows.specs.declared.row.Row.{Row}
 use Rattle.kc_rows.specs.declared.row.Row.TheVariants.{MainMenu, Source, Menu, EndMenu, If, EndIf, Choice, EndChoice, Comment, Config, Typed, Prompt, DefBool, Default, Depends, Select, Help, DashedHelp}
 
--- what is read, where nothing stands behind it
+-- what is read, where nothing stands after it
 abbrev pub alone : {A : Type 0} → List Part → A → Option A
 alone [] found = Some found
 alone (part ∷ parts) found = None
@@ -32,11 +32,11 @@ abbrev pub source : List Part → Option Row
 source (QuotedPart path ∷ rest) = alone rest (Source path)
 source _ = None
 
--- a condition with nothing behind it
+-- a condition with nothing after it
 unfoldable pub whole : List Part → Option Expr
 whole parts = given (expression parts) None (λ r. alone r.1 r.0)
 
--- the parts behind a word that is wanted
+-- the parts after a word that is wanted
 abbrev pub behind_word : List ℕ → List Part → Option (List Part)
 behind_word wanted (WordPart word ∷ rest) = if is_text word wanted then Some rest else None
 behind_word wanted _ = None
@@ -50,7 +50,7 @@ condition (part ∷ parts) = given (behind_word (codes "if") (part ∷ parts)) N
 unfoldable pub is_symbol : List ℕ → Bool
 is_symbol word = nat_lt 0 (length word) && list_all byte_is.of_symbol word
 
--- the name of a symbol, and the parts behind it
+-- the name of a symbol, and the parts after it
 abbrev pub symbol : List Part → Option (List ℕ × List Part)
 symbol (WordPart word ∷ rest) = if is_symbol word then Some (word, rest) else None
 symbol _ = None
@@ -102,7 +102,7 @@ depends rest = given (behind_word (codes "on") rest) None depends_on
 abbrev pub select : List Part → Option Row
 select rest = given (symbol rest) None (λ r. option_map (λ e. Select r.0 e) (condition r.1))
 
--- the row that a first word and the parts behind it are
+-- the row that a first word and the parts after it are
 unfoldable pub row_behind : Keyword → List Part → Option Row
 row_behind KeyMainMenu rest = quoted rest MainMenu
 row_behind KeySource rest = source rest
@@ -125,7 +125,7 @@ row_behind KeySelect rest = select rest
 row_behind KeyHelp rest = alone rest Help
 row_behind KeyDashedHelp rest = alone rest DashedHelp
 
--- a word, and what may stand behind it
+-- a word, and what may stand after it
 abbrev pub row_at : List Part → Option Row
 row_at (WordPart word ∷ rest) = given (keyword word) None (λ k. row_behind k rest)
 row_at _ = None

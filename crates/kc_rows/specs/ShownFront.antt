@@ -3,6 +3,6 @@ use Rattle.std.specs.Prelude.{List}
 use Rattle.std.specs.Borrow.{Bor}
 use Rattle.kc_text.specs.declared.part.Part.{Part}
 
--- what is read, and the parts behind it
+-- what is read, and the parts after it
 abbrev pub front : {A : Type 0} → A × Bor (List Part) → A × List Part
 front r = (r.0, r.1.now)

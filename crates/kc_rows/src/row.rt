@@ -100,14 +100,14 @@ fn row_behind(alloc: Global, keyword: Keyword, rest: &[Part]) -> Result<Option<R
     }
 }
 
-// What is read of a line, where nothing stands behind it.
+// What is read of a line, where nothing stands after it.
 fn alone<T: Drop>(behind: &[Part], found: T) -> Option<T>
     ensures { result ≡ alone behind.now found }
 {
     if behind.is_empty() { Some(found) } else { None }
 }
 
-// A line that has a quoted text behind its first word.
+// A line that has a quoted text after its first word.
 fn quoted<T: Drop>(rest: &[Part], found: T) -> Option<T>
     ensures { result ≡ quoted rest.now found }
 {
@@ -153,7 +153,7 @@ fn prompt(alloc: Global, rest: &[Part]) -> Result<Option<Row>, Memory>
     Ok(prompted(alloc, rest)?.map(Row::Prompt))
 }
 
-// The condition of a prompt: a quoted text, and perhaps a condition behind it.
+// The condition of a prompt: a quoted text, and perhaps a condition after it.
 fn prompted(alloc: Global, rest: &[Part]) -> Result<Option<Expr>, Memory>
     ensures { IfOk result (λ found. found ≡ prompted rest.now) }
 {
@@ -235,7 +235,7 @@ fn condition(alloc: Global, rest: &[Part]) -> Result<Option<Expr>, Memory>
     }
 }
 
-// A condition with nothing behind it.
+// A condition with nothing after it.
 #[tactic(auto, unfolding(crate::specs::Row::whole))]
 fn whole(alloc: Global, rest: &[Part]) -> Result<Option<Expr>, Memory>
     ensures { IfOk result (λ found. found ≡ whole rest.now) }
@@ -243,7 +243,7 @@ fn whole(alloc: Global, rest: &[Part]) -> Result<Option<Expr>, Memory>
     Ok(expression(alloc, rest)?.and_then(|(expr, behind)| alone(behind, expr)))
 }
 
-// The name of a symbol, and the parts behind it.
+// The name of a symbol, and the parts after it.
 fn symbol(rest: &[Part]) -> Result<Option<(Bytes, &[Part])>, Memory>
     ensures { IfOk result (λ found. option_map front found ≡ symbol rest.now) }
 {

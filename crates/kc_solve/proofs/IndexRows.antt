@@ -112,7 +112,7 @@ selects_put rows (Some place) x =
     map-set selects_behind rows place (row rows place ++ x ∷ [])
     ∙ ap (set (map selects_behind rows) place) (map-append (λ y. (y.0.now, y.1.now)) (row rows place) (x ∷ []) ∙ ap (λ r. r ++ (x.0.now, x.1.now) ∷ []) (selects_row_behind rows place))
 
--- one more is put, and those behind it are still to be put
+-- one more is put, and those after it are still to be put
 pub put_more : {E X : Type 0} (item : E → Option ℕ × X) (old new : List (List (Bor X))) (es : List E) (place : ℕ) (e : E) (found : Option ℕ) (x : Bor X) (whole : List (List X))
     → place < length es → e ≡ get_or es place e → new ≡ put old found x → (found, x.now) ≡ item e
     → put_all (map behind old) (map item (drop place es)) ≡ whole → put_all (map behind new) (map item (drop (place + 1) es)) ≡ whole

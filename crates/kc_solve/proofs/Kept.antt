@@ -30,7 +30,7 @@ pub record IsKept (menu : Declared) (wishes : List Wish) (values : Table) (known
   pub count : length known ≡ length menu.choices
   pub each : (place : ℕ) (found : Option (List ℕ)) → get_or known place None ≡ Some found → IsSettled menu values place × (found ≡ taken_at menu wishes values place)
 
--- ---- what is known, behind references
+-- ---- what is known, after references
 
 abbrev pub seen : List (Option (Option (Bor (List ℕ)))) → Known
 seen items = map (option_map option_copied) items

@@ -59,7 +59,7 @@ choice_words_there menu place choices choice are short is =
     ap (λ found. option_map_or {T = KcChoice × List KcEntry} (λ c. choice_words c.0 c.1) (option_map (λ c. (c, members_of menu.entries place)) found) [])
     (slice_get_read menu.choices (length menu.choices) place choice refl short (subst (λ cs. choice ≡ get_or cs place choice) are is))
 
--- four parts, one behind the other
+-- four parts, one after the other
 four_parts : (old first second third a b c d : List (List ℕ)) → first ≡ old ++ a → second ≡ first ++ b → third ≡ second ++ c → third ++ d ≡ old ++ (((a ++ b) ++ c) ++ d)
 four_parts old first second third a b c d one two three = simp (three, two, one, append_assoc)
 
@@ -118,7 +118,7 @@ pub named_step : (rows : Rows) (place : ℕ) (found : Option ℕ) (rest whole : 
 named_step rows place found rest whole short is =
     ap (λ r. r ++ rest) (row_named rows place found short) ∙ (append_assoc (row rows place) (listed found) rest ∙ is)
 
--- likewise where the words are behind references
+-- likewise where the words are after references
 pub words_step : (symbols : List (List ℕ)) (old new : Rows) (place : ℕ) (words : List (Bor (List ℕ))) (i : ℕ) (d : Bor (List ℕ)) (whole : List ℕ)
     → place < length old → i < length words → new ≡ named old place (place_of symbols (get_or words i d).now)
     → row old place ++ places_in symbols (behind (drop i words)) ≡ whole → row new place ++ places_in symbols (behind (drop (i + 1) words)) ≡ whole

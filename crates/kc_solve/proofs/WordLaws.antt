@@ -32,7 +32,7 @@ pub words_not : (inner : Expr) → words (views.Not inner) ≡ words inner
 unfolding Rattle.kc_expr.specs.declared.expr.Expr.TheBlock.hidden-the_row-Expr-0 denote.Hole.Carrier.hidden
 words_not inner = refl
 
--- the words of both sides, one behind the other
+-- the words of both sides, one after the other
 pub both_and : (old new : List (List ℕ)) (whole left right near far : Expr) → whole ≡ views.And left right → near ≡ left → far ≡ right → new ≡ (old ++ words near) ++ words far → new ≡ old ++ words whole
 both_and old new whole left right near far is near_is far_is new_is = rw (new_is, is, words_and left right, near_is, far_is) (append_assoc old (words left) (words right))
 

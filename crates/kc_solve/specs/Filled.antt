@@ -21,11 +21,11 @@ names_at menu symbols place other = names menu (symbol_at symbols place) (symbol
 abbrev pub names_within : Declared → List (List ℕ) → ℕ → ℕ → Bool
 names_within menu symbols place other = nat_lt place (length symbols) && nat_lt other (length symbols) && names_at menu symbols place other
 
--- a symbol behind the others, with the value that its equation gives at theirs
+-- a symbol after the others, with the value that its equation gives at theirs
 abbrev pub with_value : Declared → List Wish → Table → List ℕ → Table
 with_value menu wishes values symbol = values ++ (symbol, valued_by menu wishes values symbol) ∷ []
 
--- a symbol with its value behind the others, unless it is there
+-- a symbol with its value after the others, unless it is there
 abbrev pub put_valued : Table → List ℕ → Option Valued → Table
 put_valued values symbol None = values
 put_valued values symbol (Some v) = if is_some (valued symbol values) then values else values ++ (symbol, v) ∷ []

@@ -4,7 +4,7 @@ use Rattle.std.specs.Prelude.{ℕ, List, [], ◌∷◌, ◌++◌, fold, replicat
 abbrev pub row : {X : Type 0} → List (List X) → ℕ → List X
 row rows place = slice_index_or rows place []
 
--- an item behind the others of its row; one without a row is left out
+-- an item after the others of its row; one without a row is left out
 abbrev pub put : {X : Type 0} → List (List X) → Option ℕ → X → List (List X)
 put rows None item = rows
 put rows (Some place) item = slice_set rows place (row rows place ++ item ∷ [])

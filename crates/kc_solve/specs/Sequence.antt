@@ -20,7 +20,7 @@ pub record IsNameGraph (menu : Declared) (symbols : List (List ℕ)) (rows : Row
 abbrev pub IsLeastOnCycle : Declared → List ℕ → Type 0
 IsLeastOnCycle menu symbol = IsLeast (OnCycle (names menu)) symbol
 
--- that symbol, or want of memory
+-- that symbol, or out of memory
 abbrev pub IsCycleFault : Declared → SolveFault → Type 0
 IsCycleFault menu (SelectOfChoice symbol) = ⊥
 IsCycleFault menu (SelectOfValue symbol) = ⊥

@@ -1,4 +1,4 @@
-//! The values of all symbols, each found behind those that its equation names.
+//! The values of all symbols, each found after those that its equation names.
 ghost use Rattle.std.specs.Prelude.{ℕ, List, ◌≡◌, ◌<◌, Some, None, IfOk, OnOk, length};
 ghost use Rattle.cycle_walks.specs.Order.{IsOrder};
 ghost use Rattle.kc_equations.specs.Solution.{IsSolution};
@@ -17,7 +17,7 @@ use kc_menu::KcEntry;
 use kc_values::{Valued, Values};
 use std::alloc::Global;
 
-/// The solution, by an order of the symbols in which each stands behind those that its equation names.
+/// The solution, by an order of the symbols in which each stands after those that its equation names.
 pub fn solution(alloc: Global, index: &Index, order: &Numbers) -> Result<Values, Memory>
     requires index { IsIndex index.now }
     requires order { IsOrder (length index.now.symbols) (names_within index.now.menu.now index.now.symbols) order.now }
@@ -75,7 +75,7 @@ fn in_order(alloc: Global, entries: &[KcEntry], filled: &Values) -> Result<Value
     Ok(values)
 }
 
-/// Puts a symbol with its value behind the others, unless it is there.
+/// Puts a symbol with its value after the others, unless it is there.
 fn put(values: &mut Values, symbol: &Bytes, valued: &Valued) -> Result<(), Memory>
     requires { IsFit valued.now }
     ensures { OnOk result (values.new ≡ put_valued values.old symbol.now (Some valued.now)) }

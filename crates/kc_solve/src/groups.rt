@@ -56,7 +56,7 @@ impl<T: Copy> Groups<T> {
         self.rows[place as usize].items.as_slice()
     }
 
-    /// Puts an item behind the others of its row; one without a row is left out.
+    /// Puts an item after the others of its row; one without a row is left out.
     pub fn put(&mut self, place: Option<u32>, item: T) -> Result<(), Memory>
         ensures { OnOk result (self.new ≡ put self.old place item) }
     {

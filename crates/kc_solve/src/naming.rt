@@ -116,7 +116,7 @@ fn words_of_its_choice<'b, 'a>(
     }
 }
 
-/// The words of each choice. More choices than can be numbered in 32 bits are want of memory.
+/// The words of each choice. More choices than can be numbered in 32 bits are answered as out of memory.
 fn words_of_choices<'a>(alloc: Global, index: &Index<'a>) -> Result<Vec<Words<'a>>, Memory>
     requires { IsIndex index.now }
     ensures { IfOk result (λ chosen. AreChoiceWords index.now.menu.now chosen.items) }

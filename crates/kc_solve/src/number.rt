@@ -6,7 +6,7 @@ ghost use Rattle.kc_solve.specs.Index.{IsIndex};
 use crate::index::Index;
 use kc_values::{Kind, Valued, Values};
 
-/// The least int whose text isn't empty, and isn't 1 to 18 digits, perhaps behind a `-`.
+/// The least int whose text isn't empty, and isn't 1 to 18 digits, perhaps after a `-`.
 #[tactic(auto, using(crate::proofs::Steps::finding))]
 pub fn least_bad_number<'i>(index: &'i Index, values: &Values) -> Option<&'i [u8]>
     requires { IsIndex index.now }

@@ -1,4 +1,4 @@
-//! An order of the symbols in which each stands behind those that its equation names.
+//! An order of the symbols in which each stands after those that its equation names.
 ghost use Rattle.std.specs.Prelude.{◌≡◌, ◌<◌, ◌≤◌, IfOk, IfErr, length};
 ghost use Rattle.cycle_walks.specs.Graph.{names};
 ghost use Rattle.cycle_walks.specs.Order.{IsOrder};

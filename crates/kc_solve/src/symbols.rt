@@ -39,7 +39,7 @@ impl Model for Symbols {
 }
 
 impl Symbols {
-    /// The symbols of entries, each once. More than can be numbered in 32 bits are want of memory.
+    /// The symbols of entries, each once. More than can be numbered in 32 bits are answered as out of memory.
     pub fn of(alloc: Global, entries: &[KcEntry]) -> Result<Symbols, Memory>
         ensures declared { IfOk result (λ s. (t : List ℕ) → list_any (is_text t) s ≡ is_declared entries.now t) }
         ensures symbols { IfOk result AreSymbols }

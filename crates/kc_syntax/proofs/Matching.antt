@@ -42,7 +42,7 @@ plain_same s t event no_begin no_end (stays _ _ same) = same
 plain_same s t event no_begin no_end (opens k inner is cut fits) = absurd (cc)
 plain_same s t event no_begin no_end (closes k inner outer is_none is cut fits shuts) = absurd (cc)
 
--- behind what is read whole the same blocks are open
+-- after what is read whole the same blocks are open
 read_same : (s t : State) (events : List Event) → IsRead s events t → IsSame s.blocks t.blocks
 read_same _ _ _ (nothing s) = same_blocks s.blocks
 read_same _ _ _ (line s t u event events no_begin no_end e rest) =
@@ -172,7 +172,7 @@ front_run _ _ (whole events s read) = read_run start s events read
 front_run _ _ (inside front s t u which first events rest is_begin e read) =
     run_behind front (first ∷ events) start s (front_run front s rest) ∙ ap (λ o. o >>= run events) e ∙ read_run t u events read
 
--- a front behind which no block is open is read whole
+-- a front after which no block is open is read whole
 pub front_whole : (events : List Event) (s : State) → IsFront events s → s.blocks ≡ [] → IsRead start events s
 front_whole _ _ (whole events s read) none_open = read
 front_whole _ _ (inside front s t u which first events rest is_begin e read) none_open =
@@ -181,7 +181,7 @@ front_whole _ _ (inside front s t u which first events rest is_begin e read) non
     no_inside : IsInside which s.blocks u.blocks → ⊥
     no_inside (at inner cut fits) = let e : [] ≡ inner ∷ s.blocks = sym none_open ∙ cut in cc
 
--- a fault of a run is that of a line behind a front
+-- a fault of a run is that of a line after a front
 pub data IsCut (events : List Event) (fault : KcFault) : Type 0 where
   cut : (front back : List Event) (event : Event) (s : State) → events ≡ front ++ event ∷ back → IsFront front s → step s event ≡ Err fault → IsCut events fault
 

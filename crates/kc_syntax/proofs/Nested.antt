@@ -1,4 +1,4 @@
--- Behind the files no block is open.
+-- After the files no block is open.
 use Rattle.std.proofs.Common.{◌≡◌, ℕ, zero, suc, Bool, true, false, List, [], ◌∷◌, ◌++◌, Option, Some, None, Result, Ok, Err, refl, ap, sym, subst, ◌∙◌}
 use Rattle.std.specs.Prelude.{flat_map, codes, nat_lt, ◌+◌, if◌then◌else◌}
 use Rattle.std.specs.FinMap as fin
@@ -171,7 +171,7 @@ keeps_sources (suc depth) files reading file line path s t e =
     (λ u. keeps_file (source_events depth files (reading ++ path_parts path ∷ [])) (keeps_sources depth files (reading ++ path_parts path ∷ [])) (path_parts path) bytes u t)))
     e
 
--- behind all files no block is open
+-- after all files no block is open
 pub all_closed : (files : FileMap) (t : State) → run (all_events files) start ≡ Ok t → t.blocks ≡ []
 unfolding all_events
 all_closed files t e =

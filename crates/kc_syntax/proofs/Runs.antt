@@ -26,7 +26,7 @@ then_on : (outcome : Outcome) (f g : State → Outcome) (wanted whole : Outcome)
 then_on (Ok u) f g wanted whole on off e = on u e
 then_on (Err fault) f g wanted whole on off e = off fault e
 
--- what comes behind a front
+-- what comes after a front
 pub run_behind : (front back : List Event) (s t : State) → run front s ≡ Ok t → run (front ++ back) s ≡ run back t
 run_behind [] back s t e = let same : s ≡ t = cc in ap (run back) same
 run_behind (event ∷ front) back s t e =
@@ -67,7 +67,7 @@ fails_front : (front back : List Event) (s : State) (error : KcError) → Fails 
 fails_front front back s (Fault fault) e = run_fault front back s fault e
 fails_front front back s Memory e = tt
 
--- what comes behind a front that is fine
+-- what comes after a front that is fine
 follows_back : (front back : List Event) (s t new : State) (result : Result Unit KcError) → run front s ≡ Ok t → Follows (run back t) result new → Follows (run (front ++ back) s) result new
 follows_back front back s t new result e h = rw (run_behind front back s t e) h
 

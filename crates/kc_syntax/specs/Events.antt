@@ -20,7 +20,7 @@ use Rattle.kc_syntax.specs.declared.error.KcKind.TheVariants.{NoFile, BadLine, B
 pub data Event : Type 0 where
   -- a line, with its row
   row_at : (file : Names) (line : ℕ) (row : Row) → Event
-  -- a source line, behind which its file stands
+  -- a source line, after which its file stands
   source_at : (file : Names) (line : ℕ) → Event
   -- a file begins
   file_begins : Event

@@ -37,15 +37,15 @@ ends (row_at file line row) = row_ends row
 ends (file_ends file) = Some kind.File
 ends _ = None
 
--- behind a block of this kind: what stands in it is read, the blocks round it are those that were round its first line,
--- and no attribute line may follow; behind a file one may where it may at the file's end
+-- after a block of this kind: what stands in it is read, the blocks round it are those that were round its first line,
+-- and no attribute line may follow; after a file one may where it may at the file's end
 abbrev pub behind : Block → State → State → State
 behind kind.File before inside = record inside { blocks = before.blocks }
 behind kind.Menu before inside = record inside { blocks = before.blocks; owner = owner.Nobody }
 behind kind.If before inside = record inside { blocks = before.blocks; owner = owner.Nobody }
 behind kind.Choice before inside = record inside { blocks = before.blocks; owner = owner.Nobody }
 
--- what is met is read whole, from what is known before it to what is known behind it: it is nothing, a line that neither
+-- what is met is read whole, from what is known before it to what is known after it: it is nothing, a line that neither
 -- begins nor ends a block, or a block from its first line to its last
 pub data IsRead : State → List Event → State → Type 0 where
   nothing : (s : State) → IsRead s [] s
@@ -62,7 +62,7 @@ pub data IsFront : List Event → State → Type 0 where
   whole : (events : List Event) (s : State) → IsRead start events s → IsFront events s
   inside : (front : List Event) (s t u : State) (which : Block) (first : Event) (events : List Event) → IsFront front s → begins first ≡ Some which → step s first ≡ Ok t → IsRead t events u → IsFront (front ++ first ∷ events) u
 
--- the first fault of the files: of the first line that no row allows behind those before it, or else the first that only
+-- the first fault of the files: of the first line that no row allows after those before it, or else the first that only
 -- the whole shows
 pub data IsFirstFault (files : FileMap) (fault : KcFault) : Type 0 where
   at_a_line : (front back : List Event) (event : Event) (s : State) → all_events files ≡ front ++ event ∷ back → IsFront front s → step s event ≡ Err fault → IsFirstFault files fault

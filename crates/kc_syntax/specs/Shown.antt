@@ -12,7 +12,7 @@ use Rattle.kc_syntax.specs.Step.{Outcome}
 abbrev pub shown : Reader → State
 shown r = record { entries = r.entries.items; choices = r.choices.items; blocks = reverse r.blocks.items; owner = r.owner; sources = r.sources; symbols = r.symbols.entries }
 
--- the fault is the outcome's; want of memory may be answered whatever that is
+-- the fault is the outcome's; out of memory may be answered whatever that is
 abbrev pub Fails : {A : Type 0} → Result A KcFault → KcError → Type 0
 Fails outcome (Fault fault) = outcome ≡ Err fault
 Fails outcome Memory = Unit {0}

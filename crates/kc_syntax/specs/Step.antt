@@ -24,7 +24,7 @@ use Rattle.kc_syntax.specs.declared.reader.Known.{Known}
 use Rattle.kc_syntax.specs.Events.{Event, row_at, source_at, file_begins, file_ends, fault_at}
 use Rattle.kc_syntax.specs.State.{State, is_full, enclosing_choice, conditions_of, outer_of, is_file, first_line, known, with_prompt, with_default, with_select, with_depends, with_choice_prompt, with_choice_default, with_choice_depends, with_condition, with_block, with_choice, with_symbol, with_known}
 
--- what is known behind a line, or its fault
+-- what is known after a line, or its fault
 abbrev pub Outcome : Type 0
 Outcome = Result State KcFault
 

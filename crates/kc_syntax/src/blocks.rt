@@ -71,7 +71,7 @@ impl Reader {
         )
     }
 
-    /// `choice`. One behind 2^32 - 1 others is answered by want of memory.
+    /// `choice`. One after 2^32 - 1 others is answered as out of memory.
     pub(crate) fn begin_choice(&mut self, file: &SharedPath, line: u32) -> Result<(), KcError>
         ensures { Follows (on.begin_choice (shown self.old) file.now line) result (shown self.new) }
     {

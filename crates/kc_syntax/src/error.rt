@@ -7,7 +7,7 @@ use std::alloc::{AllocError, AllocFailed};
 use thiserror::Error;
 
 /// What is wrong with a line. Where several stand on one line `BadString` is told, or else the first of this list. A block that
-/// isn't closed is found at the end of its file, and `NoType` behind all files.
+/// isn't closed is found at the end of its file, and `NoType` after all files.
 #[derive(Clone, Copy, Debug, PartialEq, Eq)]
 pub enum KcKind {
     /// The file isn't there.
@@ -43,7 +43,7 @@ pub enum KcError {
     /// The first fault of the files.
     #[error("a fault in the configuration files")]
     Fault(KcFault),
-    /// Want of memory.
+    /// Out of memory.
     #[error("no memory")]
     Memory,
 }

@@ -17,7 +17,7 @@ use std::alloc::Global;
 
 /// Reads the menu that the files declare, or tells their first fault.
 ///
-/// A choice behind 2^32 - 1 others has no place that an entry could name, and is answered by want of memory.
+/// A choice after 2^32 - 1 others has no place that an entry could name, and is answered as out of memory.
 #[tactic(auto, unfolding(crate::specs::Reading::menu_of))]
 pub fn parse(alloc: Global, files: &Files) -> Result<Menu, KcError>
     requires { AreSmall files.now }
@@ -32,11 +32,11 @@ pub fn parse(alloc: Global, files: &Files) -> Result<Menu, KcError>
 }
 
 /// A law with nothing to run: the menu of the files is what they are as blocks matched like brackets, with each line of a row
-/// that may stand where it does. Their fault is that of the first line that none allows behind those before it, or else the
+/// that may stand where it does. Their fault is that of the first line that none allows after those before it, or else the
 /// first that only the whole shows. So they have one menu or one fault, and not both.
 ///
 /// What stands before the line at fault can always go on until it is whole, and where files are whole, so can each of their
-/// fronts. So the line at fault is the first behind which nothing makes the files whole.
+/// fronts. So the line at fault is the first after which nothing makes the files whole.
 pub fn files_are_read()
     ensures menu { (files : FileMap) (menu : Declared) → IsMenuOf files menu ↔ (menu_of files ≡ Ok menu) }
     ensures fault { (files : FileMap) (fault : KcFault) → IsFirstFault files fault ↔ (menu_of files ≡ Err fault) }

@@ -10,7 +10,7 @@ use Rattle.kc_text.specs.declared.part.Line.{Line}
 use Rattle.kc_text.specs.declared.lines.Help.TheVariants.{Out, First, Indent}
 use Rattle.kc_text.proofs.RawLines.{state, run, joins_front, waiting_joins, waiting_whole, between_joins, between_whole, put_empty, put_full, finish_waiting, finish_none, help_line, other_line, first_blank, first_flush, first_indented, inside_stays, inside_ends, take_first, take_inside, take_out}
 
--- the raw lines of a line are joined behind those that wait
+-- the raw lines of a line are joined after those that wait
 waiting_runs : (raws rest : List (List ℕ)) (text : List ℕ) (count : ℕ) (done : List Line) (front : List ℕ) (first number : ℕ) → IsFirst raws text count rest →
     run (state done (front ++ 92 ∷ []) first Out) number raws ≡ run (put_line (state done (front ++ 32 ∷ text) first Out)) (number + count) rest
 waiting_runs raws rest text count done front first number (IsFirst.whole raw more isnt) = ap (λ g. run g (number + 1) more) (waiting_whole done front first number raw isnt)

@@ -11,7 +11,7 @@ use Rattle.kc_text.specs.declared.lines.Help.{Help}
 use Rattle.kc_text.specs.declared.lines.Help.TheVariants.{Out, First, Indent}
 use Rattle.kc_text.proofs.RawLines.{state, run, joins_split, waiting_joins, waiting_whole, between_joins, between_whole, put_empty, put_full, finish_waiting, finish_none, help_line, other_line, first_blank, first_flush, first_indented, inside_stays, inside_ends, take_first, take_inside, take_out}
 
--- behind the lines that are done come those that the raw lines are written by
+-- after the lines that are done come those that the raw lines are written by
 abbrev Sound : List Line → ℕ → List (List ℕ) → List Line → Type 0
 Sound done number raws result = (found : List Line) × (result ≡ done ++ found) × IsLines number raws found
 
@@ -37,7 +37,7 @@ record IsWaiting (whole : List (List ℕ)) (front : List ℕ) (count : ℕ) (raw
   goes : (text : List ℕ) (more : ℕ) (rest : List (List ℕ)) → IsFirst raws text more rest → IsFirst whole (front ++ 32 ∷ text) (more + count) rest
   ends : raws ≡ [] → IsFirst whole (front ++ 92 ∷ []) count []
 
--- what is read of raw lines behind a whole line
+-- what is read of raw lines after a whole line
 record ReadsBehind (raws : List (List ℕ)) : Type 0 where
   between : (done : List Line) (first number : ℕ) → Sound done number raws (run (state done [] first Out) number raws)
   first : (done : List Line) (first number : ℕ) → SoundBlock done number raws (run (state done [] first First) number raws)
@@ -49,7 +49,7 @@ record Reads (raws : List (List ℕ)) : Type 0 where
       Sound done first whole (run (state done (front ++ 92 ∷ []) first Out) number raws)
   inside : (done : List Line) (first number least : ℕ) → SoundInside least done number raws (run (state done [] first (Indent least)) number raws)
 
--- a whole line, and what is read behind it
+-- a whole line, and what is read after it
 module _ (done : List Line) (whole rest : List (List ℕ)) (text : List ℕ) (count first number : ℕ) (counted : first + count ≡ number) (is : IsFirst whole text count rest) (reads : ReadsBehind rest) where
   put_other : is_empty (parts text) ≡ false → (t : Bool) → is_help_line (parts text) ≡ t → Sound done first whole (run (put_line (state done text first Out)) number rest)
   put_other some true help =

@@ -66,7 +66,7 @@ unfolding plain
 plain_whole done carry first number raw is =
     ap (λ b. cond b (state done (joined carry raw) (first_of carry first number) Out) (put_line (state done (joined carry raw) (first_of carry first number) Out))) is
 
--- a raw line behind those that wait
+-- a raw line after those that wait
 pub waiting_joins : (done : List Line) (front : List ℕ) (first number : ℕ) (raw : List ℕ) → joins raw ≡ true → take_line (state done (front ++ 92 ∷ []) first Out) number raw ≡ state done (front ++ 32 ∷ raw) first Out
 waiting_joins done front first number raw is =
     take_out done (front ++ 92 ∷ []) first number raw ∙ (plain_joins done (front ++ 92 ∷ []) first number raw is
@@ -95,7 +95,7 @@ unfolding put_line put_parts
 put_full done text first is =
     ap (λ b. cond b (state done [] first Out) (state (done ++ record { number = first; parts = parts text } ∷ []) [] first (help_behind (parts text)))) is
 
--- nothing waits behind a whole line
+-- nothing waits after a whole line
 pub finish_put : (done : List Line) (text : List ℕ) (first : ℕ) → finish (put_line (state done text first Out)) ≡ (put_line (state done text first Out)).lines
 unfolding finish
 finish_put done text first = by (is_empty (parts text)) refl
@@ -128,7 +128,7 @@ other_line (Some (Word word ∷ [])) is = ap (λ b. cond b First Out) is
 other_line (Some (Word word ∷ part ∷ rest)) is = let some : (length (part ∷ rest) == 0) ≡ false = ne_eqb (length (part ∷ rest)) 0 (λ none. absurd (omega (arith, none))) in ap (λ b. cond (b && is_help word) First Out) some
 other_line (Some _) is = refl
 
--- where a raw line stands behind the first line of a block of help
+-- where a raw line stands after the first line of a block of help
 pub first_blank : (raw : List ℕ) → is_blank_line raw ≡ true → help_first raw ≡ First
 unfolding help_first
 first_blank raw is = rw is refl

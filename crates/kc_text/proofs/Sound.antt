@@ -12,7 +12,7 @@ use Rattle.kc_text.specs.declared.part.Part.TheVariants.{Word as WordPart, Quote
 use Rattle.kc_text.specs.declared.lexer.Mode.TheVariants.{Between, Word, Quote, Escape, Sign, Comment}
 use Rattle.kc_text.proofs.Steps.{lexer, run, sign_byte, sign_sign, pair_none, begin_blank, begin_comment, begin_quote, begin_sign, begin_word, begin_single}
 
--- behind the parts that are done a line has the others; or a quote of it doesn't close
+-- after the parts that are done a line has the others; or a quote of it doesn't close
 abbrev pub Sound : List Part → List ℕ → Option (List Part) → Type 0
 Sound done line (Some parts) = (rest : List Part) × (parts ≡ done ++ rest) × IsLine line rest
 Sound done line None = HasOpenQuote line
@@ -97,7 +97,7 @@ begun_blank b line done reads true is =
     (skip done line (b ∷ line) (λ parts rest f. IsFront.blank b line rest parts is f) (run (lexer done [] Between) line) (reads.between done))
 begun_blank b line done reads false is = begun_comment b line done reads is (b == 35) refl
 
--- a byte behind what is read whole
+-- a byte after what is read whole
 begun : (b : ℕ) (line : List ℕ) (done : List Part) → Reads line → Sound done (b ∷ line) (run (begin (lexer done [] Between) b) line)
 begun b line done reads = begun_blank b line done reads (byte_is.blank b) refl
 

@@ -12,12 +12,12 @@ pub data IsQuoted (quote : ℕ) : List ℕ → List ℕ → Type 0 where
   plain : (byte : ℕ) (text written : List ℕ) → byte ≢ quote → byte ≢ 92 → IsQuoted quote text written → IsQuoted quote (byte ∷ text) (byte ∷ written)
   escaped : (byte : ℕ) (text written : List ℕ) → IsQuoted quote text written → IsQuoted quote (byte ∷ text) (92 ∷ byte ∷ written)
 
--- what stands behind a quote that nothing closes: a text, perhaps with a backslash at its end
+-- what stands after a quote that nothing closes: a text, perhaps with a backslash at its end
 pub data IsUnclosed (quote : ℕ) : List ℕ → Type 0 where
   bare : (text written : List ℕ) → IsQuoted quote text written → IsUnclosed quote written
   backslash : (text written : List ℕ) → IsQuoted quote text written → IsUnclosed quote (written ++ 92 ∷ [])
 
--- behind a word stands no further byte of a word
+-- after a word stands no further byte of a word
 abbrev pub EndsWord : List ℕ → Type 0
 EndsWord [] = ⊤
 EndsWord (byte ∷ line) = byte_is.of_word byte ≡ false
@@ -26,7 +26,7 @@ EndsWord (byte ∷ line) = byte_is.of_word byte ≡ false
 abbrev pub is_sign : ℕ → Bool
 is_sign byte = not (byte_is.blank byte || (byte == 35) || is_quote byte || byte_is.of_word byte)
 
--- with the byte behind it it is no operator of two bytes
+-- with the byte after it it is no operator of two bytes
 abbrev pub IsAlone : ℕ → List ℕ → Type 0
 IsAlone byte [] = ⊤
 IsAlone byte (next ∷ line) = pair byte next ≡ None
@@ -50,7 +50,7 @@ abbrev pub IsOver : List ℕ → Type 0
 IsOver [] = ⊤
 IsOver (byte ∷ line) = byte ≡ 35
 
--- the whole line is written by these parts, perhaps with a comment behind
+-- the whole line is written by these parts, perhaps with a comment after
 pub record IsLine (line : List ℕ) (parts : List Part) : Type 0 where
   pub rest : List ℕ
   pub front : IsFront line parts rest

@@ -51,7 +51,7 @@ unfoldable pub pair : ℕ → ℕ → Option Part
 pair first second =
     if first == second then double first else if (first == 33) && (second == 61) then Some Differ else None
 
--- a byte behind what is read whole: a `#` begins a comment
+-- a byte after what is read whole: a `#` begins a comment
 unfoldable pub begin : Lexer → ℕ → Lexer
 begin l byte =
     if byte_is.blank byte then enter l Between else
@@ -60,7 +60,7 @@ begin l byte =
     if is_sign byte then enter l (Sign byte) else
     if byte_is.of_word byte then keep l byte Word else put_part l (single byte)
 
--- a byte behind a word's byte
+-- a byte after a word's byte
 unfoldable pub in_word : Lexer → ℕ → Lexer
 in_word l byte = if byte_is.of_word byte then keep l byte Word else begin (put_word l) byte
 
@@ -69,7 +69,7 @@ unfoldable pub in_quote : Lexer → ℕ → ℕ → Lexer
 in_quote l quote byte =
     if byte == quote then put_quoted l else if byte == 92 then enter l (Escape quote) else keep l byte (Quote quote)
 
--- a byte behind one that may begin an operator of two bytes
+-- a byte after one that may begin an operator of two bytes
 abbrev pub behind : Lexer → ℕ → ℕ → Option Part → Lexer
 behind l sign byte (Some part) = put_part l part
 behind l sign byte None = begin (put_part l (single sign)) byte

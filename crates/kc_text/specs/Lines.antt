@@ -18,7 +18,7 @@ pub record Gathered : Type 0 where
   pub first : ℕ
   pub help : Help
 
--- the pieces between the newlines; behind the last newline there may stand nothing
+-- the pieces between the newlines; after the last newline there may stand nothing
 unfoldable pub raw_lines : List ℕ → List (List ℕ)
 raw_lines text = slice_split (λ byte. byte == 10) text
 
@@ -63,11 +63,11 @@ abbrev pub is_empty : Option (List Part) → Bool
 is_empty (Some found) = length found == 0
 is_empty None = false
 
--- where a raw line stands that comes behind `help`: blank lines change nothing, the first other one gives the indent
+-- where a raw line stands that comes after `help`: blank lines change nothing, the first other one gives the indent
 unfoldable pub help_first : List ℕ → Help
 help_first raw = if is_blank_line raw then First else if indent raw == 0 then Out else Indent (indent raw)
 
--- where one stands that comes behind a line of the block: outside if it is indented less
+-- where one stands that comes after a line of the block: outside if it is indented less
 unfoldable pub help_inside : ℕ → List ℕ → Help
 help_inside least raw = if is_blank_line raw || nat_le least (indent raw) then Indent least else Out
 
@@ -80,7 +80,7 @@ help_after (Indent least) raw = help_inside least raw
 abbrev pub first_of : List ℕ → ℕ → ℕ → ℕ
 first_of carry first number = if length carry == 0 then number else first
 
--- a raw line behind those that wait, whose last byte is a backslash: a space stands for it and its newline
+-- a raw line after those that wait, whose last byte is a backslash: a space stands for it and its newline
 abbrev pub joined : List ℕ → List ℕ → List ℕ
 joined [] raw = raw
 joined (byte ∷ bytes) raw = (take (length bytes) (byte ∷ bytes) ++ 32 ∷ []) ++ raw

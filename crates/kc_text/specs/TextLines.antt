@@ -7,11 +7,11 @@ use Rattle.kc_text.specs.declared.part.Part.{Part}
 use Rattle.kc_text.specs.declared.part.Part.TheVariants.{Word}
 use Rattle.kc_text.specs.declared.part.Line.{Line}
 
--- the first line of raw lines: its text, how many raw lines it takes, and those behind them
+-- the first line of raw lines: its text, how many raw lines it takes, and those after them
 pub data IsFirst : List (List ℕ) → List ℕ → ℕ → List (List ℕ) → Type 0 where
   -- a raw line that doesn't end in a backslash is a line
   whole : (raw : List ℕ) (rest : List (List ℕ)) → joins raw ≡ false → IsFirst (raw ∷ rest) raw 1 rest
-  -- nor does a backslash join anything that has no newline behind it
+  -- nor does a backslash join anything that has no newline after it
   last : (raw : List ℕ) → joins raw ≡ true → IsFirst (raw ∷ []) raw 1 []
   -- a backslash and its newline are one space
   joined : (front text : List ℕ) (raws rest : List (List ℕ)) (count : ℕ) → IsFirst raws text count rest → IsFirst ((front ++ 92 ∷ []) ∷ raws) (front ++ 32 ∷ text) (count + 1) rest
@@ -30,7 +30,7 @@ abbrev pub IsFlush : List (List ℕ) → Type 0
 IsFlush [] = ⊤
 IsFlush (raw ∷ rest) = (is_blank_line raw ≡ false) × (indent raw ≡ 0)
 
--- a block of help, and the raw lines behind it: the first line that isn't blank gives the indent, and one without ends it
+-- a block of help, and the raw lines after it: the first line that isn't blank gives the indent, and one without ends it
 pub data IsHelpBlock : List (List ℕ) → List (List ℕ) → Type 0 where
   bare : (blanks rest : List (List ℕ)) → IsTrue (list_all is_blank_line blanks) → IsFlush rest → IsHelpBlock blanks rest
   indented : (blanks more rest : List (List ℕ)) (first : List ℕ) → IsTrue (list_all is_blank_line blanks) → is_blank_line first ≡ false → 0 < indent first →

@@ -105,7 +105,7 @@ impl Lexer {
         self.mode = mode;
     }
 
-    // A byte behind what is read whole.
+    // A byte after what is read whole.
     #[tactic(auto, unfolding(crate::specs::Lexer::begin))]
     fn begin(&mut self, byte: u8) -> Result<(), Memory>
         ensures { OnOk result (shown self.new ≡ begin (shown self.old) byte) }

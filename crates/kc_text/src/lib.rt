@@ -2,7 +2,7 @@
 //!
 //! A line ends at a newline. A backslash right before a newline joins the two lines, with one space in place of both,
 //! and the joined line has the number of its first. A line is a list of parts: words, quoted texts, operators and
-//! brackets, with blanks between them and perhaps a comment behind. Lines without parts are left out.
+//! brackets, with blanks between them and perhaps a comment after. Lines without parts are left out.
 //!
 //! A line of the one word `help` or `---help---` begins a block of text, which is left out too. In it nothing is joined.
 //! Its first line that isn't blank gives the indent, and it ends before the first such line that is indented less.

@@ -17,7 +17,7 @@ use std::alloc::{AllocError, Global};
 pub enum Help {
     /// Outside.
     Out,
-    /// Behind its first line, or behind that and blank lines.
+    /// After its first line, or after that and blank lines.
     First,
     /// Inside, where the block has this indent.
     Indent(usize),
@@ -138,7 +138,7 @@ impl Gathered {
     }
 }
 
-// Where the raw line stands, which comes behind one that stands at `help`.
+// Where the raw line stands, which comes after one that stands at `help`.
 fn help_after(help: Help, raw: &[u8]) -> Help
     requires { length raw.now < 2 ^ 31 }
     ensures { result ≡ help_after help raw.now }

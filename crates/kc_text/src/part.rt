@@ -10,7 +10,7 @@ use std::marker::Model;
 pub enum Part {
     /// Letters, digits, `_`, `-` and `.`.
     Word(Bytes),
-    /// What stands between two quotes, without the backslashes that quote the byte behind them.
+    /// What stands between two quotes, without the backslashes that quote the byte after them.
     Quoted(Bytes),
     /// `||`
     Or,

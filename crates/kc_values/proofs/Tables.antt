@@ -22,7 +22,7 @@ module _ {K V : Type 0} (shown : K → List ℕ) where
   abbrev pub texts : List (K × V) → List (List ℕ × V)
   texts es = map {B = List ℕ × V} (λ e. (shown e.0, e.1)) es
 
-  -- a new key goes behind the others
+  -- a new key goes after the others
   insert-map : (same : List ℕ → List ℕ → Bool) (es : List (K × V)) (k : K) (v : V) → lookup (same (shown k)) (texts es) ≡ None →
       texts (insert_entry (λ a b. same (shown a) (shown b)) es k v) ≡ texts es ++ (shown k, v) ∷ []
   insert-map same [] k v absent = refl
@@ -34,7 +34,7 @@ keys_push : (values : Table) (symbol : List ℕ) (valued : Valued) → keys_of (
 keys_push [] symbol valued = refl
 keys_push (e ∷ values) symbol valued = ap (λ ks. e.0 ∷ ks) (keys_push values symbol valued)
 
--- a table stays one with a symbol behind that isn't in it
+-- a table stays one with a symbol after that isn't in it
 pub table_push : (values : Table) (symbol : List ℕ) (valued : Valued) → IsTable values → find symbol values ≡ None → IsFit valued → IsTable (values ++ (symbol, valued) ∷ [])
 table_push values symbol valued table absent fit = record {
   distinct = subst (IsDistinct is_text) (sym (keys_push values symbol valued)) (IsDistinct-push nat_list_eq_equiv (keys_of values) symbol table.distinct (sym (is_some-lookup (is_text symbol) values) ∙ ap is_some absent));
@@ -52,7 +52,7 @@ module _ {K : Type 0} (shown : K → List ℕ) where
 
   module _ (es new : List (K × Valued)) (k : K) (valued : Valued) (table : Table) (symbol : List ℕ) (is_table : texts shown es ≡ table) (is_symbol : shown k ≡ symbol)
       (is_new : new ≡ insert_entry (λ a b. is_text (shown a) (shown b)) es k valued) (absent : find symbol table ≡ None) where
-    -- a new symbol goes behind the others
+    -- a new symbol goes after the others
     pub table_added : texts shown new ≡ table ++ (symbol, valued) ∷ []
     table_added =
         let none : find (shown k) (texts shown es) ≡ None = rw (is_table, is_symbol) absent in

@@ -55,7 +55,7 @@ impl Values {
         }
     }
 
-    /// Puts a symbol behind the others. It is none of them, and the text of a bool is `y` or `n`.
+    /// Puts a symbol after the others. It is none of them, and the text of a bool is `y` or `n`.
     pub fn add(&mut self, symbol: Bytes, valued: Valued) -> Result<(), Memory>
         requires absent { find symbol self.old ≡ None }
         requires fit { IsFit valued }

@@ -48,7 +48,7 @@ module _ (Has : List ℕ → ℕ → Type 0) (Fails : ExpandFault → Type 0) (k
   told_fault cause (Err f) told e = let same : f ≡ cause = cc in subst Fails same told
 
 module _ (vars : Environment) (depth : ℕ) (locals : List Local) (name : List ℕ) where
-  -- how a name goes on behind the cost of the reference
+  -- how a name goes on after the cost of the reference
   abbrev going_on : State → Run
   going_on t = named vars (text_run vars depth) (outside locals) name ([], t.1)
 

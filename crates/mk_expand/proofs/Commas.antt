@@ -17,7 +17,7 @@ no_comma Round = (refl, refl)
 no_comma Curly = (refl, refl)
 
 module _ (kind : Bracket) where
-  -- how many brackets are open behind a text, of so many before it
+  -- how many brackets are open after a text, of so many before it
   abbrev open_behind : ℕ → List ℕ → ℕ
   open_behind level [] = level
   open_behind level (b ∷ text) =
@@ -49,7 +49,7 @@ module _ (kind : Bracket) where
       let same : open_behind 0 front ≡ open_behind 0 (before ++ opening kind ∷ behind) = ap (open_behind 0) cut in
       absurd (omega arith)
 
-  -- where brackets are open behind a text, one of it stays open, or one that was open before it does
+  -- where brackets are open after a text, one of it stays open, or one that was open before it does
   record Opened (text : List ℕ) : Type 0 where
     before : List ℕ
     behind : List ℕ

@@ -84,12 +84,12 @@ reference_on vars depth scope kind text rest s r n next t e =
     (ap (λ p. piece_run (inside_run vars depth scope) p s) (reference_piece kind text rest n) ∙ e)
     ∙ next t e
 
--- a whole text, with nothing behind it
+-- a whole text, with nothing after it
 pub from_rest : (vars : Environment) (depth : ℕ) (scope : Scope) (text : List ℕ) (s t : State) →
     ((rest : List ℕ) → walk (inside_run vars depth scope) 0 (text ++ rest) s ≡ walk (inside_run vars depth scope) 0 rest t) → text_run vars depth scope text s ≡ Ok t
 from_rest vars depth scope text s t e = ap (λ t. walk (inside_run vars depth scope) 0 t s) (sym (append-nil text)) ∙ e []
 
--- a piece, and the text behind it
+-- a piece, and the text after it
 piece_end : (kind : Bracket) (text rest : List ℕ) → ◌≡◌ {A = List ℕ} ((36 ∷ opening kind ∷ text ++ closing kind ∷ []) ++ rest) (36 ∷ opening kind ∷ text ++ closing kind ∷ rest)
 piece_end kind text rest = ap (λ t. 36 ∷ opening kind ∷ t) (append_assoc text (closing kind ∷ []) rest)
 

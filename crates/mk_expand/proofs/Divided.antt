@@ -42,7 +42,7 @@ module _ (kind : Bracket) (most : Option ℕ) (count : ℕ) where
       by R false false true false m place e x y w = w e
       by R false false true true m place e x y w = cc
 
-  -- the argument up to the comma at a place, and those behind it
+  -- the argument up to the comma at a place, and those after it
   abbrev pub Next : List ℕ → List ℕ → ℕ → ℕ → List (List ℕ) → Type 0
   Next text begun place at all = (n : ℕ) × (at ≡ place + n) × (all ≡ (begun ++ take n text) ∷ divided kind most (count + 1) 0 [] (drop (suc n) text))
 
@@ -95,7 +95,7 @@ module _ (kind : Bracket) (most : Option ℕ) (count : ℕ) (rest : List ℕ) wh
       by false m e = divided_last kind most count rest [] 0 m
       by true m e = divided_none kind most count rest [] 0 0 e
 
--- the same behind arguments that were found before
+-- the same after arguments that were found before
 module _ {X : Type 0} (shown : X → List ℕ) (kind : Bracket) (most : Option ℕ) (args pushed : List X) (arg : X) (rest : List ℕ) (found : pushed ≡ args ++ arg ∷ []) where
   shown_push : map shown pushed ≡ map shown args ++ shown arg ∷ []
   shown_push = ap (map shown) found ∙ map-append shown args (arg ∷ [])

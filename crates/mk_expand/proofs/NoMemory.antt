@@ -1,4 +1,4 @@
--- Want of memory is no fault of a text.
+-- Out of memory is no fault of a text.
 use Rattle.std.proofs.Common.{◌≡◌, ◌≢◌, ◌∙◌, ℕ, Bool, true, false, cond, List, length, Option, Some, None}
 use Rattle.std.specs.Prelude.{◌==◌, ◌&&◌, codes}
 use Rattle.mk_expand.specs.declared.bracket.Bracket.{Bracket}
@@ -12,7 +12,7 @@ use Rattle.mk_expand.specs.Call.{refusal}
 use Rattle.mk_expand.specs.Meaning.{Environment}
 use Rattle.mk_expand.specs.Failure.{FailsWith, fails, FailsPiece, costly, stray_end, stray, unclosed, short, deep, within, FailsInside, its_one, long, name_fails, named_fails, strict_fails, test_fails, branch_fails, variable_fails, list_fails, each_fails, FailsNamed, refused, met, too_long, later_fails, FailsAll, arg_fails, arg_refused, later_arg, FailsEach, here, further}
 
--- what is refused, if anything is, isn't want of memory
+-- what is refused, if anything is, isn't out of memory
 abbrev Holds : Option ExpandFault → Type 0
 Holds cause = (fault : ExpandFault) → cause ≡ Some fault → fault ≢ Memory
 

@@ -129,7 +129,7 @@ module _ (vars : Environment) (depth : ℕ) (scope : Scope) (texts : TellsText v
       ] refl)
       (λ f h. arg_fails h)
 
-  -- a row of texts behind a gap
+  -- a row of texts after a gap
   abbrev HasRow : List ℕ → List ℕ → List ℕ → List (List ℕ) → List ℕ → ℕ → Type 0
   HasRow name body gap words bytes cost = (parts : List (List ℕ)) × HasEach vars depth scope name body words parts cost × (bytes ≡ row_behind gap parts)
 
@@ -272,7 +272,7 @@ one_deeper vars depth texts scope kind text rest w k n =
           (called vars (text_run vars depth) scope (inside_of kind text) text (w, k)) (tells_called vars depth scope texts kind text w k (inside_of kind text) refl e)
     ]
 
--- a text that fails, behind a piece that has a value
+-- a text that fails, after a piece that has a value
 before : {vars : Environment} {depth : ℕ} {scope : Scope} {piece bytes text : List ℕ} {cost m : ℕ} {f : ExpandFault} (k : ℕ) → HasPiece vars depth scope piece bytes cost → m ≡ k + cost →
     FailsWith vars depth scope m text f → FailsWith vars depth scope k (piece ++ text) f
 before {vars} {depth} {scope} {piece} {bytes} {cost = cost} {m = m} {f = f} k p e (fails {cost = more} front rest out v low g) =
@@ -291,7 +291,7 @@ module _ (vars : Environment) (depth : ℕ) (references : TellsReferences vars d
   abbrev TellsRun : List ℕ → List ℕ → ℕ → Run → Type 0
   TellsRun text w k r = Tells (HasValue vars depth scope text) (FailsWith vars depth scope k text) w k r
 
-  -- a text behind a piece that has a value, put behind it
+  -- a text after a piece that has a value, put after it
   behind_piece : (piece text bytes w : List ℕ) (k cost : ℕ) → HasPiece vars depth scope piece bytes cost → (r : Run) → TellsRun text (w ++ bytes) (k + cost) r → TellsRun (piece ++ text) w k r
   behind_piece piece text bytes w k cost p (Ok t) h = record {
     bytes = bytes ++ h.bytes;

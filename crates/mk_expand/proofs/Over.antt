@@ -85,7 +85,7 @@ unpaid vars expand scope (Loop var list body) text w k n h =
 unpaid vars expand scope (Strict function args) text w k n h =
     bind_err (λ t. all_values vars expand scope function [] args t >>= λ v. put (applied function v.0) v.1) (pay_over w k h)
 
--- a whole text that fails, with nothing behind it
+-- a whole text that fails, with nothing after it
 pub err_rest : (vars : Environment) (depth : ℕ) (scope : Scope) (text : List ℕ) (s : State) (f : ExpandFault) →
     ((rest : List ℕ) → walk (inside_run vars depth scope) 0 (text ++ rest) s ≡ Err f) → text_run vars depth scope text s ≡ Err f
 err_rest vars depth scope text s f e = ap (λ t. walk (inside_run vars depth scope) 0 t s) (sym (append-nil text)) ∙ e []

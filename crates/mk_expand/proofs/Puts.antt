@@ -30,7 +30,7 @@ state_of_put a w k t = state_by (leb (length a) (1048576 - k))
     state_by true e = cc
     state_by false e = cc
 
--- what is put behind a part that was put
+-- what is put after a part that was put
 pub put_on : (a b : List ℕ) (s t : State) → put a s ≡ Ok t → put (a ++ b) s ≡ put b t
 put_on a b (w, k) t e =
     let is = state_of_put a w k t e in

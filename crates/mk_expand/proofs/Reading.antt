@@ -8,7 +8,7 @@ use Rattle.mk_expand.specs.Bracket.{opening, closing, IsNested, IsUnclosed, clos
 use Rattle.mk_expand.specs.Piece.{Piece, Byte, Stray, Unclosed, Reference, reference_at, closed_len, behind_dollar, dollar_len, piece_of, piece_len}
 use Rattle.mk_expand.proofs.Closing.{closing_at, closing_sound, unclosed_none, none_unclosed}
 
--- a byte and a text behind it, by the piece that they begin with
+-- a byte and a text after it, by the piece that they begin with
 pub data Seen (b : ℕ) (text : List ℕ) : Type 0 where
   seen_byte : b ≢ 36 → piece_of b text ≡ Byte b → piece_len b text ≡ 0 → Seen b text
   seen_dollar : (rest : List ℕ) → b ≡ 36 → text ≡ 36 ∷ rest → piece_of b text ≡ Byte 36 → piece_len b text ≡ 1 → Seen b text
@@ -60,7 +60,7 @@ stray_tests c P Q R S one two three = grind (arith, nat_tests)
 pub stray_piece : (c : ℕ) (rest : List ℕ) → c ≢ 36 → c ≢ 40 → c ≢ 123 → piece_of 36 (c ∷ rest) ≡ Stray
 stray_piece c rest one two three = stray_tests c _ _ _ _ one two three
 
--- a kind's bracket behind a dollar
+-- a kind's bracket after a dollar
 see_kind : (kind : Bracket) (text : List ℕ) → Seen 36 (opening kind ∷ text)
 see_kind kind text =
     elim (close_of kind 0 0 text) as (λ r. close_of kind 0 0 text ≡ r → Seen 36 (opening kind ∷ text)) [

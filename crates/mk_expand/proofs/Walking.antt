@@ -140,7 +140,7 @@ module _ (vars : Environment) (expand : Expansion) (scope : Scope) where
       each vars expand scope name body gap (word ∷ others) s ≡ Err f
   each_stop name body gap word others s f e = bind_err (each vars expand scope name body (32 ∷ []) others) e
 
-  -- a word of a list whose text fails, behind a gap that is put
+  -- a word of a list whose text fails, after a gap that is put
   pub each_stop_at : {X : Type 0} (shown : X → List ℕ) (name body gap : List ℕ) (words : List X) (place : ℕ) (word : X) (s paid : State) (f : ExpandFault) → place < length words →
       paid ≡ (s.0 ++ gap, s.1) → expand (with_local scope name (shown (get_or words place word))) body paid ≡ Err f → each vars expand scope name body gap (map shown (drop place words)) s ≡ Err f
   each_stop_at shown name body gap words place word s paid f low is fails =

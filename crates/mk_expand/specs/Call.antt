@@ -11,7 +11,7 @@ use Rattle.br_path.specs.Text.{is_text}
 use Rattle.mk_expand.specs.Lists.{argument}
 use Rattle.mk_expand.specs.Table.{entry, function_of, may_divide}
 
--- the arguments in a text behind so many others: the one that was begun, at a level of brackets, ends at the first comma that divides
+-- the arguments in a text after so many others: the one that was begun, at a level of brackets, ends at the first comma that divides
 abbrev pub divided : Bracket → Option ℕ → ℕ → ℕ → List ℕ → List ℕ → List (List ℕ)
 divided kind most count level begun [] = begun ∷ []
 divided kind most count level begun (b ∷ text) =
@@ -38,7 +38,7 @@ call_of function args = Strict function args
 abbrev pub checked_call : Function → List (List ℕ) → Inside
 checked_call function args = if nat_lt (length args) (entry function).1 then Short else call_of function args
 
--- the inside by the function that its first word names, and the text behind that
+-- the inside by the function that its first word names, and the text after that
 abbrev pub inside_with : Bracket → List ℕ → Option Function → Inside
 inside_with kind text None = Name
 inside_with kind text (Some function) =
@@ -53,14 +53,14 @@ inside_at kind text (Some place) = inside_with kind (drop place text) (function_
 abbrev pub inside_of : Bracket → List ℕ → Inside
 inside_of kind text = inside_at kind text (position is_blank text)
 
--- why a call is refused as soon as the value of an argument is known: behind so many others, and before so many
+-- why a call is refused as soon as the value of an argument is known: after so many others, and before so many
 abbrev pub refusal : Function → ℕ → List ℕ → ℕ → Option ExpandFault
 refusal Subst count value behind = if count == 0 && length value == 0 then Some BadCall else None
 refusal CallOf count value behind =
     if count == 0 then (if is_text value (codes "qstrip") then (if behind == 0 then Some BadCall else None) else Some (Unsupported value)) else None
 refusal function count value behind = None
 
--- an answer of the code is what is refused, or that nothing is; want of memory may be answered whatever there is
+-- an answer of the code is what is refused, or that nothing is; out of memory may be answered whatever there is
 abbrev pub IsAllowed : {A : Type 0} → Option ExpandFault → Result A ExpandFault → Type 0
 IsAllowed refused (Ok done) = refused ≡ None
 IsAllowed refused (Err fault) = fault ≢ Memory → refused ≡ Some fault

@@ -29,7 +29,7 @@ put bytes s = if nat_le (length bytes) (cost_limit - s.1) then Ok (s.0 ++ bytes,
 abbrev pub put_apart : State → State → Result State ExpandFault
 put_apart s apart = put apart.0 (s.0, apart.1)
 
--- an answer of the code is that of a definition, but that want of memory may be answered whatever there is
+-- an answer of the code is that of a definition, but that out of memory may be answered whatever there is
 abbrev pub IsRun : {A : Type 0} → Result State ExpandFault → Result A ExpandFault → State → Type 0
 IsRun run (Ok done) new = run ≡ Ok new
 IsRun run (Err fault) new = fault ≢ Memory → run ≡ Err fault

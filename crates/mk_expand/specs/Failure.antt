@@ -80,7 +80,7 @@ mutual
         meaning vars scope name ≡ Later text → FailsWith vars depth (with_active scope name) spent text fault →
         FailsNamed vars depth scope spent name fault
 
-  -- an argument fails, behind so many, or its value is refused
+  -- an argument fails, after so many, or its value is refused
   pub data FailsAll (vars : Environment) : ℕ → Scope → ℕ → Function → ℕ → List (List ℕ) → ExpandFault → Type 0 where
     arg_fails : {depth : ℕ} {scope : Scope} {spent count : ℕ} {function : Function} {text : List ℕ} {args : List (List ℕ)} {fault : ExpandFault} →
         FailsWith vars depth scope spent text fault → FailsAll vars depth scope spent function count (text ∷ args) fault

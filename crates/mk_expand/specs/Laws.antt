@@ -23,14 +23,14 @@ abbrev pub IsFirstComma : Bracket → List ℕ → Option ℕ → Type 0
 IsFirstComma kind text None = IsWhole kind text
 IsFirstComma kind text (Some place) = IsCut kind text (take place text) (drop (suc place) text)
 
--- the arguments of a text behind so many others: each ends at the first comma outside brackets, and the last is what is left
+-- the arguments of a text after so many others: each ends at the first comma outside brackets, and the last is what is left
 -- where no more comma may divide, or none does
 pub data AreArguments (kind : Bracket) (most : Option ℕ) : ℕ → List ℕ → List (List ℕ) → Type 0 where
   last : {count : ℕ} {text : List ℕ} → (may_divide most count ≡ true → IsWhole kind text) → AreArguments kind most count text (text ∷ [])
   next : {count : ℕ} {text front rest : List ℕ} {args : List (List ℕ)} → may_divide most count ≡ true → IsCut kind text front rest →
       AreArguments kind most (count + 1) rest args → AreArguments kind most count text (front ∷ args)
 
--- a text with `to` in place of `from`, read from the left: at `from` the reading goes on behind it, and another byte stays
+-- a text with `to` in place of `from`, read from the left: at `from` the reading goes on after it, and another byte stays
 pub data IsReplaced (from to : List ℕ) : List ℕ → List ℕ → Type 0 where
   end : IsReplaced from to [] []
   there : {text out : List ℕ} → IsReplaced from to text out → IsReplaced from to (from ++ text) (to ++ out)

@@ -78,7 +78,7 @@ module _ (vars : Environment) (expand : Expansion) (scope : Scope) where
   abbrev pub choice_call : List ℕ → List ℕ → List ℕ → State → Run
   choice_call test one other s = pay s >>= λ t. apart test t >>= λ v. branch (chosen v.0 one other) v.1
 
-  -- the text of each word, the first behind a gap
+  -- the text of each word, the first after a gap
   abbrev pub each : List ℕ → List ℕ → List ℕ → List (List ℕ) → State → Run
   each name body gap [] s = Ok s
   each name body gap (word ∷ words) s =

@@ -11,12 +11,12 @@ pub data Piece : Type 0 where
   Unclosed : Piece
   Reference : Bracket → List ℕ → Piece
 
--- a reference in a text behind its bracket, by the place where it closes
+-- a reference in a text after its bracket, by the place where it closes
 abbrev pub reference_at : Bracket → List ℕ → Option ℕ → Piece
 reference_at kind text None = Unclosed
 reference_at kind text (Some place) = Reference kind (take place text)
 
--- the piece that begins with a `$`, by what stands behind it
+-- the piece that begins with a `$`, by what stands after it
 abbrev pub behind_dollar : List ℕ → Piece
 behind_dollar [] = Stray
 behind_dollar (b ∷ text) =
@@ -29,7 +29,7 @@ behind_dollar (b ∷ text) =
 abbrev pub piece_of : ℕ → List ℕ → Piece
 piece_of b text = if b == 36 then behind_dollar text else Byte b
 
--- how many bytes of a text behind its bracket a reference takes, by the place where it closes
+-- how many bytes of a text after its bracket a reference takes, by the place where it closes
 abbrev pub closed_len : Option ℕ → ℕ
 closed_len None = 0
 closed_len (Some place) = place + 1
@@ -42,6 +42,6 @@ dollar_len (b ∷ text) =
     if b == 123 then suc (closed_len (close_of Curly 0 0 text)) else
     0
 
--- how many bytes the first piece takes behind its first
+-- how many bytes the first piece takes after its first
 abbrev pub piece_len : ℕ → List ℕ → ℕ
 piece_len b text = if b == 36 then dollar_len text else 0

@@ -33,7 +33,7 @@ reference_run vars depth locals name = given_name name >>= λ t. named vars (tex
 unfoldable pub reference_answer : Environment → List Local → List ℕ → Result (List ℕ) ExpandFault
 reference_answer vars locals name = text_of (reference_run vars inner_limit locals name)
 
--- the name stands for these bytes, at a cost that is within the limit behind those of the reference and of the name
+-- the name stands for these bytes, at a cost that is within the limit after those of the reference and of the name
 abbrev pub IsNameValue : Environment → ℕ → List Local → List ℕ → List ℕ → Type 0
 IsNameValue vars depth locals name bytes = (cost : ℕ) × HasNamed vars depth (outside locals) name bytes cost × (1 + length name + cost ≤ cost_limit)
 
@@ -61,7 +61,7 @@ pub record ReferenceIsExact (vars : Environment) (locals : List Local) (name : L
   pub value : (bytes : List ℕ) → (reference_answer vars locals name ≡ Ok bytes) ↔ IsNameValue vars inner_limit locals name bytes
   -- the answer is a fault just where the name has it
   pub fault : (cause : ExpandFault) → (reference_answer vars locals name ≡ Err cause) ↔ IsNameFault vars inner_limit locals name cause
-  -- want of memory is no answer
+  -- out of memory is no answer
   pub held : reference_answer vars locals name ≢ Err Memory
   -- a plain name between brackets is a text with the same value
   pub spelled : IsPlain name → (bytes : List ℕ) → IsValue vars depth_limit (outside locals) (spelled_out name) bytes ↔ (reference_answer vars locals name ≡ Ok bytes)

@@ -59,7 +59,7 @@ mutual
         meaning vars scope name ≡ Later text → HasValue vars depth (with_active scope name) text bytes cost →
         HasNamed vars depth scope name bytes cost
 
-  -- the arguments of a call behind those whose values are known, from left to right
+  -- the arguments of a call after those whose values are known, from left to right
   pub data HasAll (vars : Environment) : ℕ → Scope → Function → List (List ℕ) → List (List ℕ) → List (List ℕ) → ℕ → Type 0 where
     none_left : {depth : ℕ} {scope : Scope} {function : Function} {known : List (List ℕ)} → HasAll vars depth scope function known [] known 0
     one_more : {depth : ℕ} {scope : Scope} {function : Function} {known args values : List (List ℕ)} {text value : List ℕ} {cost more : ℕ} →

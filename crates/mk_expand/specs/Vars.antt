@@ -18,7 +18,7 @@ found table name = lookup (is_text name) table
 abbrev pub put : Table → List ℕ → Variable → Table
 put table name variable = insert_entry is_text table name variable
 
--- a text with another behind it, and a space between where the first isn't empty
+-- a text with another after it, and a space between where the first isn't empty
 abbrev pub lengthened : List ℕ → List ℕ → List ℕ
 lengthened [] more = more
 lengthened (b ∷ text) more = (b ∷ text) ++ 32 ∷ more

@@ -24,7 +24,7 @@ abbrev pub without_front : (ℕ → Bool) → List ℕ → List ℕ
 without_front test [] = []
 without_front test (b ∷ text) = if test b then without_front test text else b ∷ text
 
--- a byte and a text behind it, from which the bytes at its end are gone; the byte goes too where it passes the test and ends the whole
+-- a byte and a text after it, from which the bytes at its end are gone; the byte goes too where it passes the test and ends the whole
 abbrev pub onto_back : (ℕ → Bool) → ℕ → List ℕ → List ℕ
 onto_back test b [] = if test b then [] else b ∷ []
 onto_back test b (c ∷ text) = b ∷ c ∷ text

@@ -70,7 +70,7 @@ fn put_row(words: &[&[u8]], out: &mut Draft) -> Result<(), ExpandFault>
     Ok(())
 }
 
-// The words, each behind a text.
+// The words, each after a text.
 fn put_prefixed(prefix: &[u8], words: &[&[u8]], out: &mut Draft) -> Result<(), ExpandFault>
     ensures { IsRun (put (row (map (λ word. prefix.now ++ word) (map (λ word. word.now) words.now))) out.old) result out.new }
 {
@@ -108,7 +108,7 @@ fn put_three(one: &[u8], two: &[u8], three: &[u8], out: &mut Draft) -> Result<()
     put_two(two, three, out)
 }
 
-// The words, exchanged where they fit a pattern, but for those that become empty.
+// The words, exchanged where they fit a pattern, except for those that become empty.
 fn put_exchanged(
     pattern: &[u8],
     replacement: &[u8],
@@ -252,7 +252,7 @@ fn put_replaced(from: &[u8], to: &[u8], text: &[u8], out: &mut Draft) -> Result<
     put_each_replaced(from, to, text, out)
 }
 
-/// `subst` reads a text from the left: where what it looks for stands, it puts the other text and goes on behind it, and
+/// `subst` reads a text from the left: where what it looks for stands, it puts the other text and goes on after it, and
 /// every other byte stays.
 pub fn subst_replaces()
     ensures { (from to text : List ℕ) → 0 < length from → IsReplaced from to text (replaced from to 0 text) }

@@ -112,12 +112,12 @@ fn divide<'a>(
 }
 
 /// The arguments of a call, joined by commas, are the text that they were read from. Each of them ends at the first comma
-/// outside brackets, but for the last, which holds what is left where no more commas may divide or none does.
+/// outside brackets, except for the last, which holds what is left where no more commas may divide or none does.
 pub fn arguments_divide()
     ensures { (kind : Brackets) (most : Option ℕ) (text : List ℕ) → AreArguments kind most 0 text (divided kind most 0 0 [] text) }
 {}
 
-// The comma that divides a text behind so many arguments.
+// The comma that divides a text after so many arguments.
 fn next_comma(kind: Bracket, most: Option<usize>, count: usize, text: &[u8]) -> Option<usize>
     ensures place { result ≡ (if may_divide most count then comma_of kind 0 0 text.now else None) }
     ensures within { IfSome result (λ place. place < length text.now) }
@@ -130,7 +130,7 @@ fn next_comma(kind: Bracket, most: Option<usize>, count: usize, text: &[u8]) -> 
     kind.comma(text)
 }
 
-/// Refuses the value of an argument, given how many stand before it and behind it: what `subst` looks for, where it is
+/// Refuses the value of an argument, given how many stand before it and after it: what `subst` looks for, where it is
 /// empty, and what `call` calls, where it isn't `qstrip` or has no argument.
 pub(crate) fn check_argument(
     alloc: Global,

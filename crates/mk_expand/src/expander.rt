@@ -34,7 +34,7 @@ const DEPTH_LIMIT: u32 = 200;
 /// doesn't close and a call with too few arguments, the depth, and the cost of 1; then what its inside says; and last what
 /// hangs on the whole of it, a name or the length of a result.
 ///
-/// The value has at most 1,048,576 bytes. No fault but want of memory depends on anything but the arguments.
+/// The value has at most 1,048,576 bytes. No fault but out of memory depends on anything but the arguments.
 pub fn expand(
     alloc: Global,
     vars: &Vars,
@@ -116,7 +116,7 @@ fn given_name(alloc: Global, name: &[u8]) -> Result<Draft, ExpandFault>
     Ok(given)
 }
 
-/// A reference by name has the value and the fault of what the name stands for, and want of memory is none of them. Where
+/// A reference by name has the value and the fault of what the name stands for, and out of memory is none of them. Where
 /// the name is plain they are those of the text that spells the reference.
 pub fn reference_is_exact()
     ensures { (vars : Environment) (locals : List Local) (name : List ℕ) → ReferenceIsExact vars locals name }
@@ -308,7 +308,7 @@ impl<'a> Expander<'a> {
         Ok(values)
     }
 
-    // One more value, with so many arguments behind it.
+    // One more value, with so many arguments after it.
     #[cycle(expansion)]
     #[tactic(auto, using(crate::proofs::Walking::one_steps))]
     fn arg(

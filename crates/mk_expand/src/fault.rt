@@ -5,7 +5,7 @@ use br_path::{Bytes, Memory};
 use std::alloc::{AllocError, AllocFailed};
 use thiserror::Error;
 
-/// The fault of a text that is met first from the left, or want of memory.
+/// The fault of a text that is met first from the left, or out of memory.
 #[derive(Debug, Drop, PartialEq, Eq, Error)]
 pub enum ExpandFault {
     /// A variable is met while it is being expanded.
@@ -21,7 +21,7 @@ pub enum ExpandFault {
     /// The cost passes its limit, or references and calls stand too deep in one another.
     #[error("too costly")]
     TooCostly,
-    /// Want of memory.
+    /// Out of memory.
     #[error("no memory")]
     Memory,
 }

@@ -38,7 +38,7 @@ impl Locals {
         }
     }
 
-    /// Adds a name behind the others, which it hides.
+    /// Adds a name after the others, which it hides.
     pub fn add(&mut self, name: Bytes, bytes: Bytes) -> Result<(), Memory>
         ensures ok { OnOk result (self.new ≡ self.old ++ record { name = name; bytes = bytes } ∷ []) }
         ensures err { OnErr result (self.new ≡ self.old) }

@@ -19,7 +19,7 @@ pub(crate) enum Piece<'a> {
     Reference(Bracket, &'a [u8]),
 }
 
-/// The first piece of a text, given as its first byte and the rest, and what stands behind the piece.
+/// The first piece of a text, given as its first byte and the rest, and what stands after the piece.
 pub(crate) fn first_piece(first: u8, rest: &[u8]) -> (Piece<'_>, &[u8])
     ensures piece { shown_piece result.0 ≡ piece_of first rest.now }
     ensures behind { result.1.now ≡ drop (piece_len first rest.now) rest.now }

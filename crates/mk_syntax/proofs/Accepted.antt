@@ -32,13 +32,13 @@ pub after_fault : (lines : List Line) (fault : MkFault) → after lines (Err fau
 after_fault [] fault = refl
 after_fault (line ∷ lines) fault = refl
 
--- lines behind lines
+-- lines after lines
 pub after_lines : (front back : List Line) (run : Run) → after (front ++ back) run ≡ after back (after front run)
 after_lines [] back run = refl
 after_lines (line ∷ front) back (Ok reader) = after_lines front back (next reader line)
 after_lines (line ∷ front) back (Err fault) = sym (after_fault back fault)
 
--- where lines are read, what is behind them goes on from there
+-- where lines are read, what is after them goes on from there
 pub more_lines : (front back : List Line) (run out : Run) (reader : Reader) → after front run ≡ Ok reader → after back (Ok reader) ≡ out → after (front ++ back) run ≡ out
 more_lines front back run out reader e f = after_lines front back run ∙ ap (after back) e ∙ f
 

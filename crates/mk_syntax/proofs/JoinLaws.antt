@@ -26,7 +26,7 @@ skip_blanks-plain : (text : List ℕ) → BeginsPlain text → skip_blanks text 
 skip_blanks-plain [] h = refl
 skip_blanks-plain (b ∷ bs) h = ap (λ t. cond t (skip_blanks bs) (b ∷ bs)) (h b bs refl)
 
--- another byte and what is behind it stay
+-- another byte and what is after it stay
 skip_blanks-kept : (front : List ℕ) (b : ℕ) (bs : List ℕ) → is_blank b ≡ false → skip_blanks (front ++ b ∷ bs) ≡ skip_blanks front ++ b ∷ bs
 skip_blanks-kept [] b bs h = ap (λ t. cond t (skip_blanks bs) (b ∷ bs)) h
 skip_blanks-kept (x ∷ front) b bs h =
@@ -48,7 +48,7 @@ trim_end-twice : (text : List ℕ) → trim_end (trim_end text) ≡ trim_end tex
 trim_end-twice text =
     ap (λ r. reverse (skip_blanks r)) (reverse-reverse (skip_blanks (reverse text))) ∙ ap reverse (skip_blanks-twice (reverse text))
 
--- blanks behind a text go
+-- blanks after a text go
 trim_end-blanks : (line before : List ℕ) → AreBlanks before → trim_end (line ++ before) ≡ trim_end line
 trim_end-blanks line [] h = ap trim_end (append-nil line)
 trim_end-blanks line (b ∷ bs) h =
@@ -64,7 +64,7 @@ last-byte x b =
 is_joined-end : (x : List ℕ) → is_joined (x ++ 92 ∷ []) ≡ true
 is_joined-end x = ap (λ b. eqb b 92) (last-byte x 92)
 
--- what joining makes, as one list behind what is kept
+-- what joining makes, as one list after what is kept
 joined-is : (line further : List ℕ) → joined line further ≡ trim_end (take (length line - 1) line) ++ 32 ∷ skip_blanks further
 joined-is line further = append_assoc (trim_end (take (length line - 1) line)) (32 ∷ []) (skip_blanks further)
 
@@ -101,7 +101,7 @@ one_blank : AreBlanks (32 ∷ [])
 one_blank zero d e = refl
 one_blank (suc k) d e = absurd (omega arith)
 
--- a join behind a join
+-- a join after a join
 again : (kept line before after next : List ℕ) (back : List (List ℕ)) → trim_end kept ≡ kept → EndsPlain line → AreBlanks before → AreBlanks after → BeginsPlain next → texts_from (kept ++ 32 ∷ skip_blanks (line ++ (before ++ 92 ∷ []))) ((after ++ next) ∷ back) ≡ texts_from (kept ++ 32 ∷ skip_blanks (line ++ 32 ∷ next)) back
 again kept [] before after next back ends plain blanks_before blanks_after begins =
     ap (λ t. texts_from (kept ++ 32 ∷ t) ((after ++ next) ∷ back)) (skip_blanks-blanks before (92 ∷ []) blanks_before)
@@ -129,7 +129,7 @@ trim_end-plain [] h = refl
 trim_end-plain (x ∷ xs) h =
     let s = snoc x xs in ap trim_end s.1.1 ∙ trim_end-kept s.0 s.1.0 (h s.0 s.1.0 s.1.1) ∙ sym s.1.1
 
--- a join behind any parts
+-- a join after any parts
 behind_parts : (front back : List (List ℕ)) (begun line before after next : List ℕ) → EndsPlain line → AreBlanks before → AreBlanks after → BeginsPlain next → texts_from begun (front ++ (line ++ before ++ 92 ∷ []) ∷ (after ++ next) ∷ back) ≡ texts_from begun (front ++ (line ++ 32 ∷ next) ∷ back)
 behind_parts [] back begun line before after next ends blanks_before blanks_after begins =
     elim (is_joined begun) as (λ t. cond t (texts_from (joined begun (line ++ before ++ 92 ∷ [])) ((after ++ next) ∷ back)) (begun ∷ texts_from (line ++ before ++ 92 ∷ []) ((after ++ next) ∷ back)) ≡ cond t (texts_from (joined begun (line ++ 32 ∷ next)) back) (begun ∷ texts_from (line ++ 32 ∷ next) back)) [
@@ -180,7 +180,7 @@ counted count start number line (further ∷ raw) =
       | false ↦ ap (λ r. line_at (start + count) line ∷ r) (ap (λ n. lines_from n n further raw) one ∙ counted count (number + 1) (number + 1) further raw)
     ]
 
--- behind a line that isn't joined, the count goes on
+-- after a line that isn't joined, the count goes on
 stops : (start number : ℕ) (line : List ℕ) (back : List (List ℕ)) → is_joined line ≡ false → lines_from start number line back ≡ record { number = start; bytes = line } ∷ map (later number) (joined_parts back)
 stops start number line [] h = refl
 stops start number line (part ∷ back) h =

@@ -54,13 +54,13 @@ passes {o = o} {c = c} differ (pair inside text matched more) level place rest =
     ∙ passes differ more level (place + 1 + length inside + 1) rest
     ∙ ap (λ p. closing o c level p rest) e
 
--- behind what matches, the closing bracket is found
+-- after what matches, the closing bracket is found
 pub closes_at : {o c : ℕ} (inside rest : List ℕ) → eqb c o ≡ false → AreMatched o c inside → closing o c 0 0 (inside ++ c ∷ rest) ≡ Some (length inside)
 closes_at {o = o} {c = c} inside rest differ matched =
     let e : 0 + length inside ≡ length inside = omega arith in
     passes differ matched 0 0 (c ∷ rest) ∙ at_closing o c 0 (0 + length inside) rest differ ∙ ap (λ p. Some p) e
 
--- a text in which, where so many brackets were opened before it, the last of them closes behind so many bytes
+-- a text in which, where so many brackets were opened before it, the last of them closes after so many bytes
 data Unwinds (o c : ℕ) : ℕ → List ℕ → ℕ → Type 0 where
   here : (x rest : List ℕ) → AreMatched o c x → Unwinds o c zero (x ++ c ∷ rest) (length x)
   more : (x text : List ℕ) {level n : ℕ} → AreMatched o c x → Unwinds o c level text n → Unwinds o c (suc level) (x ++ c ∷ text) (length x + 1 + n)

@@ -30,7 +30,7 @@ endef-row : inside_of endef.bytes ≡ inside.Ends
 unfolding endef inside_of
 endef-row = refl
 
--- lines behind which a recipe goes on
+-- lines after which a recipe goes on
 abbrev pub GoesOn : List Line → Type 0
 GoesOn front = (back : List Line) × ((statements : List Statement) × IsBlock (front ++ back) statements)
 
@@ -57,6 +57,6 @@ begins back statements (on reader leaves) block = (reader, leaves)
 begins back statements (off front line behind reader fault cut leaves denied) block =
     absurd (not_both block (at_a_line front line (behind ++ back) reader (ap (λ l. l ++ back) cut ∙ append_assoc front (line ∷ behind) back) leaves denied))
 
--- where a recipe goes on behind lines, they leave something open, or nothing
+-- where a recipe goes on after lines, they leave something open, or nothing
 pub begun : (front back : List Line) (statements : List Statement) → IsBlock (front ++ back) statements → (reader : Reader) × Leaves front reader
 begun front back statements block = begins back statements (reads front) block

@@ -29,7 +29,7 @@ whole p (x ∷ xs) h =
     elim (p x) as (λ t. length (x ∷ xs) ≤ cond (not t) (1 + position_or_len p xs) 0 → cond t ([] ∷ slice_split p xs) (onto_first x (slice_split p xs)) ≡ (x ∷ xs) ∷ [])
     [ true ↦ λ k. absurd (omega arith) | false ↦ λ k. ap (onto_first x) (whole p xs (omega arith)) ] h
 
--- a text before and behind its first newline
+-- a text before and after its first newline
 pub split_here : (p : ℕ → Bool) (text : List ℕ) (place : ℕ) → position p text ≡ Some place → slice_split p text ≡ take place text ∷ slice_split p (drop (place + 1) text)
 split_here p text place e =
     let h = is_below (position_or_len p text) (length text) place e in

@@ -110,7 +110,7 @@ plainly b line shorter is_plain = let k = shorter line (omega arith) in (b ∷ k
 apart : {b c d : ℕ} → b ≡ c → eqb c d ≡ false → b ≡ d → ⊥
 apart {c = c} {d = d} e f g = let h : eqb c d ≡ true = eq-eqb c d (sym e ∙ g) in true≢false (sym h ∙ f)
 
--- behind a backslash
+-- after a backslash
 from_backslash : (line : List ℕ) → Shorter (92 ∷ line) → Left (92 ∷ line)
 from_backslash line shorter =
     elim (begins 35 line) as (λ _. Left (92 ∷ line)) [
@@ -134,7 +134,7 @@ no_brackets : {o c : ℕ} (line : List ℕ) → AreBrackets o c → (Begins 40 l
 no_brackets line round no_round no_curly = no_round
 no_brackets line curly no_round no_curly = no_curly
 
--- behind a dollar
+-- after a dollar
 from_dollar : (line : List ℕ) → Shorter (36 ∷ line) → Left (36 ∷ line)
 from_dollar line shorter =
     elim (begins 36 line) as (λ _. Left (36 ∷ line)) [

@@ -35,7 +35,7 @@ beginning_at {a = a} {t = t} {conditions = conditions} e f beginning = subst (λ
 leaves_at : {a b : List Line} {reader other : Reader} → a ≡ b → reader ≡ other → Leaves a reader → Leaves b other
 leaves_at {a = a} {other = other} e f leaves = subst (λ l. Leaves l other) e (subst (λ r. Leaves a r) f leaves)
 
--- what may stand behind every block
+-- what may stand after every block
 abbrev Follows : List Line → List Statement → Type 0
 Follows lines items = (block : List Line) (statements : List Statement) → IsBlock block statements → IsBlock (block ++ lines) (statements ++ items)
 
@@ -49,7 +49,7 @@ grow_branches lines items follows (last part line block before statements branch
     branches_at (sym (append_assoc part (line ∷ block) lines)) (sym (append_assoc before (at_line line Else ∷ statements) items))
     (last part line (block ++ lines) before (statements ++ items) branches row (follows block statements inner))
 
--- and so behind every beginning
+-- and so after every beginning
 grow : {front : List Line} {statements : List Statement} {conditions : List Condition} (lines : List Line) (items : List Statement) → Follows lines items → IsBeginning front statements conditions → IsBeginning (front ++ lines) (statements ++ items) conditions
 grow lines items follows (whole block) = whole (follows _ _ block)
 grow lines items follows (branching front part statements branches beginning rest) =

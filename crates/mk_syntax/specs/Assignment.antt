@@ -8,7 +8,7 @@ use Rattle.mk_syntax.specs.declared.recipe.How.{How}
 use Rattle.mk_syntax.specs.declared.recipe.How.TheVariants.{Later, Now, Append, IfUnset}
 use Rattle.mk_syntax.specs.Blanks.{skip_blanks, behind}
 
--- a name has bytes from 0x21 to 0x7E, but for some
+-- a name has bytes from 0x21 to 0x7E, except for some
 abbrev pub is_name_byte : ℕ → Bool
 is_name_byte b = nat_le 33 b && nat_le b 126 && not (list_any (λ c. c == b) (codes ":#=$()?+"))
 
@@ -16,7 +16,7 @@ is_name_byte b = nat_le 33 b && nat_le b 126 && not (list_any (λ c. c == b) (co
 abbrev pub name_length : List ℕ → ℕ
 name_length text = position_or_len (λ b. not (is_name_byte b)) text
 
--- the text behind an operator, with what the operator means
+-- the text after an operator, with what the operator means
 abbrev pub assigned : How → List ℕ → List ℕ → Option (How × List ℕ)
 assigned how operator text = option_map (λ value. (how, value)) (behind operator text)
 

@@ -19,10 +19,10 @@ trim_end text = reverse (skip_blanks (reverse text))
 abbrev pub first_word : List ℕ → List ℕ
 first_word text = take (position_or_len is_blank text) text
 
--- what stands behind the first word, without the blanks between
+-- what stands after the first word, without the blanks between
 abbrev pub behind_word : List ℕ → List ℕ
 behind_word text = skip_blanks (drop (position_or_len is_blank text) text)
 
--- what stands behind a front, where the text begins with it
+-- what stands after a front, where the text begins with it
 abbrev pub behind : List ℕ → List ℕ → Option (List ℕ)
 behind front text = if bytes_eq (take (length front) text) front then Some (drop (length front) text) else None

@@ -21,7 +21,7 @@ behind_dollar (b ∷ bs) =
 abbrev pub is_escape : ℕ → List ℕ → Bool
 is_escape b bs = b == 92 && starts_with nat_eq bs (codes "#")
 
--- how many bytes stay as they are behind a byte
+-- how many bytes stay as they are after a byte
 abbrev pub kept_behind : ℕ → List ℕ → ℕ
 kept_behind b bs = if b == 36 then behind_dollar bs else 0
 

@@ -39,7 +39,7 @@ abbrev pub lines_text : List Line → List ℕ
 lines_text body = join_with_byte 10 (map (λ line. line.bytes) body)
 
 mutual
-  -- a block is nothing, or a block and behind it a line without effect, a plain statement, a definition or a condition
+  -- a block is nothing, or a block and after it a line without effect, a plain statement, a definition or a condition
   pub data IsBlock : List Line → List Statement → Type 0 where
     nothing : IsBlock [] []
     blank : (front : List Line) (line : Line) {statements : List Statement} → IsBlock front statements → row_of line.bytes ≡ Nothing → IsBlock (front ++ line ∷ []) statements
@@ -57,7 +57,7 @@ mutual
 abbrev pub IsRecipeOf : List Line → List Statement → Type 0
 IsRecipeOf = IsBlock
 
--- how a recipe may begin, outside `define`: a block, and behind it branches of conditions that stand open, innermost first
+-- how a recipe may begin, outside `define`: a block, and after it branches of conditions that stand open, innermost first
 pub data IsBeginning : List Line → List Statement → List Condition → Type 0 where
   whole : {front : List Line} {statements : List Statement} → IsBlock front statements → IsBeginning front statements []
   branching : (front part : List Line) (statements branches : List Statement) {conditions : List Condition} {number : ℕ} {past_else : Bool} → IsBeginning front statements conditions → IsBranches number past_else part branches → IsBeginning (front ++ part) (statements ++ branches) (record { line = number; past_else = past_else } ∷ conditions)
@@ -67,12 +67,12 @@ pub data Leaves : List Line → Reader → Type 0 where
   undefined : {front : List Line} {statements : List Statement} {conditions : List Condition} → IsBeginning front statements conditions → Leaves front (record { statements = statements; conditions = conditions; definition = None })
   defining : (front : List Line) (line : Line) (body : List Line) {name : List ℕ} {statements : List Statement} {conditions : List Condition} → IsBeginning front statements conditions → row_of line.bytes ≡ Opens name → All IsText body → Leaves (front ++ line ∷ body) (record { statements = statements; conditions = conditions; definition = Some (record { line = line.number; name = name; body = map (λ text. text.bytes) body }) })
 
--- the first fault: of the first line that nothing allows behind those before it, or else of what the end leaves open
+-- the first fault: of the first line that nothing allows after those before it, or else of what the end leaves open
 pub data IsFirstFault (lines : List Line) (fault : MkFault) : Type 0 where
   at_a_line : (front : List Line) (line : Line) (back : List Line) (reader : Reader) → lines ≡ front ++ line ∷ back → Leaves front reader → next reader line ≡ Err fault → IsFirstFault lines fault
   at_the_end : (reader : Reader) → Leaves lines reader → left_open reader.conditions reader.definition ≡ Some fault → IsFirstFault lines fault
 
--- why a recipe isn't read: its first fault, or want of memory
+-- why a recipe isn't read: its first fault, or out of memory
 abbrev pub IsErrorOf : List Line → MkError → Type 0
 IsErrorOf lines (Fault fault) = IsFirstFault lines fault
 IsErrorOf lines Memory = Unit {0}

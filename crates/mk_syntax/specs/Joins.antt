@@ -34,7 +34,7 @@ BecomesOneSpace front line before after next back =
     EndsPlain line → AreBlanks before → AreBlanks after → BeginsPlain next
     → texts (joined_parts (front ++ (line ++ before ++ 92 ∷ []) ∷ (after ++ next) ∷ back)) ≡ texts (joined_parts (front ++ (line ++ 32 ∷ next) ∷ back))
 
--- behind a part that isn't joined with the next, lines are those of what follows, counted on
+-- after a part that isn't joined with the next, lines are those of what follows, counted on
 abbrev pub CountOn : List (List ℕ) → List ℕ → List (List ℕ) → Type 0
 CountOn front part back =
     is_joined part ≡ false → joined_parts (front ++ part ∷ back) ≡ joined_parts (front ++ part ∷ []) ++ map (later (length front + 1)) (joined_parts back)

@@ -38,7 +38,7 @@ joined_parts (first ∷ raw) = lines_from 1 1 first raw
 abbrev pub joined_lines : List ℕ → List Line
 joined_lines text = joined_parts (raw_lines text)
 
--- the parts behind a newline, if there is one
+-- the parts after a newline, if there is one
 abbrev pub raw_behind : Option (List ℕ) → List (List ℕ)
 raw_behind None = []
 raw_behind (Some text) = raw_lines text

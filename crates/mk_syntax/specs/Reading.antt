@@ -28,7 +28,7 @@ Run = Result Reader MkFault
 abbrev pub refused : ℕ → MkKind → Run
 refused number kind = Err (record { line = number; kind = kind })
 
--- a statement behind those that are read, where these conditions stand open, innermost first
+-- a statement after those that are read, where these conditions stand open, innermost first
 abbrev pub added : List Statement → List Condition → ℕ → What → Run
 added statements conditions number what =
     Ok (record { statements = statements ++ record { line = number; what = what } ∷ []; conditions = conditions; definition = None })

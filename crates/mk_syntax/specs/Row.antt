@@ -14,7 +14,7 @@ use Rattle.mk_syntax.specs.Comment.{without_comment}
 use Rattle.mk_syntax.specs.Assignment.{name_length, assignment_of}
 use Rattle.mk_syntax.specs.Condition.{test_of}
 
--- behind the name that a `define` sets stands nothing, or an `=`
+-- after the name that a `define` sets stands nothing, or an `=`
 abbrev pub ends_definition : List ℕ → Bool
 ends_definition text = length text == 0 || bytes_eq text (codes "=")
 
@@ -85,7 +85,7 @@ row_of_text text = text_row text (assignment_of text)
 unfoldable pub row_of : List ℕ → Row
 row_of line = row_of_text (skip_blanks (without_comment 0 line))
 
--- behind `endef` stands nothing, or a comment
+-- after `endef` stands nothing, or a comment
 abbrev pub end_of_definition : List ℕ → Inside
 end_of_definition text = if length text == 0 || starts_with nat_eq text (codes "#") then inside.Ends else inside.Refused BadLine
 

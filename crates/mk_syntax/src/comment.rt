@@ -38,7 +38,7 @@ pub(crate) fn without_comment(alloc: Global, line: &[u8]) -> Result<Vec<u8>, All
     Ok(kept)
 }
 
-/// Puts the plain bytes that a text begins with behind a line, and gives what follows them.
+/// Puts the plain bytes that a text begins with after a line, and gives what follows them.
 fn put_plain<'a>(kept: &mut Vec<u8>, text: &'a [u8]) -> Result<&'a [u8], AllocError>
     ensures same { IfOk result (λ rest. kept.new.items ++ without_comment 0 rest.now ≡ kept.old.items ++ without_comment 0 text.now) }
     ensures within { IfOk result (λ rest. length rest.now ≤ length text.now) }
@@ -63,7 +63,7 @@ fn is_escape(byte: u8, behind: &[u8]) -> bool
     byte == b'\\' && behind.starts_with(b"#")
 }
 
-/// How many bytes stay as they are behind a byte: after a dollar those that go with it.
+/// How many bytes stay as they are after a byte: after a dollar those that go with it.
 fn kept_behind(byte: u8, behind: &[u8]) -> usize
     ensures value { result ≡ kept_behind byte behind.now }
     ensures within { result ≤ length behind.now }

@@ -11,7 +11,7 @@ pub enum MkError {
     /// The first fault of the text.
     #[error(transparent)]
     Fault(MkFault),
-    /// Want of memory.
+    /// Out of memory.
     #[error("no memory")]
     Memory,
 }

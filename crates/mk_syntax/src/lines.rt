@@ -46,7 +46,7 @@ pub(crate) fn joined_lines(alloc: Global, text: &[u8]) -> Result<Vec<Line>, Memo
 /// A law with nothing to run: what the lines of a text are, by its parts between newlines.
 ///
 /// Parts of which none ends in a backslash are the lines. A backslash at the end of a part, with the blanks before it
-/// and those that begin the next part, is as good as one space. Behind a part without a backslash the lines are those
+/// and those that begin the next part, is as good as one space. After a part without a backslash the lines are those
 /// of what follows, counted on; so a line has the number of its first part.
 pub fn parts_join()
     ensures apart { (parts : List (List ℕ)) → StayApart parts }

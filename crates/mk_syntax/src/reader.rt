@@ -40,7 +40,7 @@ pub fn read(alloc: Global, text: &[u8]) -> Result<Recipe, MkError>
 
 /// A law with nothing to run: lines are a recipe in one way, or have one first fault, and never both or neither.
 ///
-/// So the line of a fault is the first behind which no recipe goes on: one goes on behind lines exactly where these
+/// So the line of a fault is the first after which no recipe goes on: one goes on after lines exactly where these
 /// leave something open, or nothing.
 pub fn one_answer()
     ensures recipe { (lines : List Line) (statements others : List Statement) → IsRecipeOf lines statements → IsRecipeOf lines others → statements ≡ others }

@@ -51,7 +51,7 @@ pub enum How {
     Later,
     /// `:=`: expanded at once.
     Now,
-    /// `+=`: behind what it has.
+    /// `+=`: after what it has.
     Append,
     /// `?=`: where it isn't set.
     IfUnset,

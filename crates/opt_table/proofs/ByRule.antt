@@ -26,13 +26,13 @@ one-more front word = sym (length-append front (word ∷ []))
 two-more : (front : Names) (word next : List ℕ) → length front + 1 + 1 ≡ length (front ++ word ∷ next ∷ [])
 two-more front word next = omega (arith, length-append front (word ∷ next ∷ []))
 
--- where a word is taken, the reading goes on behind it
+-- where a word is taken, the reading goes on after it
 go-on : (rows : Rows) (word : List ℕ) (words : Names) (place : ℕ) (read more : Read) (waiting : Option Waiting) → is_end None word ≡ false
     → said_of rows place None word ≡ Ok (record { read = more; waiting = waiting })
     → behind read (words_from rows (word ∷ words) place None) ≡ behind (joined read more) (words_from rows words (place + 1) waiting)
 go-on rows word words place read more waiting goes_on said = next-word rows word words place None waiting read (joined read more) goes_on (ap (grown read) said)
 
--- and where the next word is a value, behind that
+-- and where the next word is a value, after that
 go-past : (rows : Rows) (word next : List ℕ) (words : Names) (place : ℕ) (read : Read) (given : List Given) (letter : ℕ) → is_end None word ≡ false
     → said_of rows place None word ≡ Ok (record { read = only_given given; waiting = Some (waits place letter) })
     → behind read (words_from rows (word ∷ next ∷ words) place None) ≡ behind (joined read (only_given (given ++ with_value letter next ∷ []))) (words_from rows words (place + 1 + 1) None)
@@ -41,7 +41,7 @@ go-past rows word next words place read given letter goes_on said =
     ∙ next-word rows next words (place + 1) (Some (waits place letter)) None (joined read (only_given given)) (joined (joined read (only_given given)) (only_given (with_value letter next ∷ []))) refl refl
     ∙ ap (λ (r : Read). behind r (words_from rows words (place + 1 + 1) None)) (joined-joined read (only_given given) (only_given (with_value letter next ∷ [])))
 
--- words behind those that are read whole
+-- words after those that are read whole
 taken-read : (rows : Rows) {front : Names} {read : Read} → is_rising rows ≡ true → AreTaken rows front read → (back : Names)
     → words_from rows (front ++ back) 0 None ≡ behind read (words_from rows back (length front) None)
 taken-read rows rising none back = sym (behind-nothing (words_from rows back 0 None))
@@ -82,16 +82,16 @@ abbrev pub IsByRule : Rows → Names → Result Read OptFault → Type 0
 IsByRule rows words (Ok read) = AreRead rows words read
 IsByRule rows words (Err fault) = IsFirstFault rows words fault
 
--- words behind a front, read further by the rule
+-- words after a front, read further by the rule
 abbrev GoesOn : Rows → Names → Type 0
 GoesOn rows words = (front : Names) (read : Read) → AreTaken rows front read → IsByRule rows (front ++ words) (behind read (words_from rows words (length front) None))
 
--- likewise behind a word that waits for its value
+-- likewise after a word that waits for its value
 abbrev WaitsOn : Rows → Names → Type 0
 WaitsOn rows words = (front : Names) (word letters : List ℕ) (read : Read) (given : List Given) (letter : ℕ) → AreTaken rows front read → IsGroup word letters → Says rows letters given (Some letter)
     → IsByRule rows (front ++ word ∷ words) (behind (joined read (only_given given)) (words_from rows words (length front + 1) (Some (waits (length front) letter))))
 
--- a word behind a front that is taken with it
+-- a word after a front that is taken with it
 with-front : (rows : Rows) (front : Names) (word : List ℕ) (words : Names) (read more : Read) → is_end None word ≡ false
     → said_of rows (length front) None word ≡ Ok (record { read = more; waiting = None }) → AreTaken rows (front ++ word ∷ []) (joined read more) → GoesOn rows words
     → IsByRule rows (front ++ word ∷ words) (behind read (words_from rows (word ∷ words) (length front) None))

@@ -30,7 +30,7 @@ grown-nothing : (further : Result Said OptFault) → grown nothing further ≡ f
 grown-nothing (Ok s) = refl
 grown-nothing (Err fault) = refl
 
--- letters without a value, and the rest of the group behind them
+-- letters without a value, and the rest of the group after them
 flags-group : (rows : Rows) (place : ℕ) (letters rest : List ℕ) → is_rising rows ≡ true → All (IsFlag rows) letters
     → group_of rows place (letters ++ rest) ≡ grown (only_given (map plain letters)) (group_of rows place rest)
 flags-group rows place [] rest rising all = sym (grown-nothing (group_of rows place rest))

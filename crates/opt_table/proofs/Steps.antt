@@ -1,4 +1,4 @@
--- What is read so far, and what is read behind it.
+-- What is read so far, and what is read after it.
 use Rattle.std.proofs.Common.{◌≡◌, ℕ, ◌+◌, Bool, true, false, Option, Some, None, Result, Ok, Err, List, [], ◌∷◌, sym, refl, ap, ◌∙◌, append_assoc}
 use Rattle.std.specs.Prelude.{if◌then◌else◌}
 use Rattle.std.proofs.lemmas.List.{append-nil}
@@ -47,7 +47,7 @@ next-said old new (Ok said) waiting onward is =
     ∙ ap (λ (s : Said). behind s.read (onward s.waiting)) (let e : record { read = joined old said.read; waiting = said.waiting } ≡ record { read = new; waiting = waiting } = cc in e)
 next-said old new (Err fault) waiting onward is = (cc)
 
--- a word is taken, and the words behind it are left
+-- a word is taken, and the words after it are left
 pub next-word : (rows : Rows) (word : List ℕ) (words : Names) (place : ℕ) (waiting left : Option Waiting) (old new : Read) → is_end waiting word ≡ false
     → grown old (said_of rows place waiting word) ≡ Ok (record { read = new; waiting = left })
     → behind old (words_from rows (word ∷ words) place waiting) ≡ behind new (words_from rows words (place + 1) left)

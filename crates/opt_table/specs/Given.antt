@@ -35,7 +35,7 @@ value_of read letter = first_value (reverse read.given) letter
 abbrev pub nothing : Read
 nothing = record { given = []; operands = [] }
 
--- what was read, and behind it more
+-- what was read, and after it more
 abbrev pub joined : Read → Read → Read
 joined read more = record { given = read.given ++ more.given; operands = read.operands ++ more.operands }
 

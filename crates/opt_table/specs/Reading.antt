@@ -22,7 +22,7 @@ abbrev pub with_rest : ℕ → ℕ → List ℕ → Said
 with_rest place letter [] = record { read = nothing; waiting = Some (record { letter = letter; place = place }) }
 with_rest place letter (byte ∷ bytes) = record { read = only_given (with_value letter (byte ∷ bytes) ∷ []); waiting = None }
 
--- what was read, and behind it what is said further
+-- what was read, and after it what is said further
 abbrev pub grown : Read → Result Said OptFault → Result Said OptFault
 grown read further = further >>= λ said. Ok (record { read = joined read said.read; waiting = said.waiting })
 
@@ -38,7 +38,7 @@ group_of rows place (letter ∷ rest) = by_row (row_of rows letter) place letter
 
 -- 2. A word.
 
--- the letters of a group: what stands behind the `-` of a longer word
+-- the letters of a group: what stands after the `-` of a longer word
 abbrev pub letters_of : List ℕ → Option (List ℕ)
 letters_of [] = None
 letters_of (byte ∷ []) = None
@@ -70,7 +70,7 @@ abbrev pub ended : Option Waiting → Result Read OptFault
 ended None = Ok nothing
 ended (Some waiting) = Err (NeedsValue waiting.place)
 
--- what was read, and behind it what is read further
+-- what was read, and after it what is read further
 abbrev pub behind : Read → Result Read OptFault → Result Read OptFault
 behind read further = further >>= λ more. Ok (joined read more)
 

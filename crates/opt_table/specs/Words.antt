@@ -28,7 +28,7 @@ pub data IsGroup : List ℕ → List ℕ → Type 0 where
 abbrev pub IsOperand : List ℕ → Type 0
 IsOperand word = (letter : ℕ) (more : List ℕ) → word ≢ 45 ∷ letter ∷ more
 
--- what the letters of a group say: letters without a value, and behind them perhaps a letter whose value is the rest of the
+-- what the letters of a group say: letters without a value, and after them perhaps a letter whose value is the rest of the
 -- word, or one that ends the word and takes the next word
 pub data Says (rows : Rows) : List ℕ → List Given → Option ℕ → Type 0 where
   flags : (letters : List ℕ) → All (IsFlag rows) letters → Says rows letters (map plain letters) None
@@ -45,18 +45,18 @@ pub data AreTaken (rows : Rows) : Names → Read → Type 0 where
   value : (front : Names) (word letters next : List ℕ) (read : Read) (given : List Given) (letter : ℕ) → AreTaken rows front read → IsGroup word letters → Says rows letters given (Some letter)
       → AreTaken rows (front ++ word ∷ next ∷ []) (joined read (only_given (given ++ with_value letter next ∷ [])))
 
--- words: they are read whole, or up to `--`, behind which all are operands
+-- words: they are read whole, or up to `--`, after which all are operands
 pub data AreRead (rows : Rows) : Names → Read → Type 0 where
   whole : (words : Names) (read : Read) → AreTaken rows words read → AreRead rows words read
   ended : (front back : Names) (read : Read) → AreTaken rows front read → AreRead rows (front ++ codes "--" ∷ back) (joined read (only_operands back))
 
--- a word that is refused: it begins with `--` and is longer, or, behind letters without a value, has a letter that isn't in
+-- a word that is refused: it begins with `--` and is longer, or, after letters without a value, has a letter that isn't in
 -- the table
 pub data IsRefused (rows : Rows) : List ℕ → Type 0 where
   long : (byte : ℕ) (bytes : List ℕ) → IsRefused rows (45 ∷ 45 ∷ byte ∷ bytes)
   unknown : (word letters : List ℕ) (letter : ℕ) (more : List ℕ) → IsGroup word (letters ++ letter ∷ more) → All (IsFlag rows) letters → IsUnknown rows letter → IsRefused rows word
 
--- the first fault: of the word behind those that are read
+-- the first fault: of the word after those that are read
 pub data IsFirstFault (rows : Rows) : Names → OptFault → Type 0 where
   refused : (front back : Names) (word : List ℕ) (read : Read) → AreTaken rows front read → IsRefused rows word → IsFirstFault rows (front ++ word ∷ back) (Unknown (length front))
   no_value : (front : Names) (word letters : List ℕ) (read : Read) (given : List Given) (letter : ℕ) → AreTaken rows front read → IsGroup word letters → Says rows letters given (Some letter)

@@ -10,7 +10,7 @@ pub enum OptFault {
     Unknown(u32),
     /// The word ends in a letter that takes a value, and no word follows.
     NeedsValue(u32),
-    /// Want of memory.
+    /// Out of memory.
     Memory,
 }
 

@@ -5,7 +5,7 @@
 //!
 //! Until `--`, a word that begins with `-` and is longer is a group of letters, wherever it stands. A letter with a value takes
 //! the rest of its word or, at the end of the word, the next word, whatever that is. All other words are operands, as are all
-//! behind `--`, and `-` alone is one. A letter that the table hasn't is a fault of its word, and so is each longer word that
+//! after `--`, and `-` alone is one. A letter that the table hasn't is a fault of its word, and so is each longer word that
 //! begins with `--`; a letter that finds no value is one too. The first word at fault is told by its place.
 //!
 //! The time is proportional to the bytes of the words, times the rows of the table.

@@ -69,21 +69,21 @@ impl Options {
         self.operands.as_slice()
     }
 
-    /// Puts a letter behind those that were given.
+    /// Puts a letter after those that were given.
     pub(crate) fn give(&mut self, letter: u8, value: Option<Bytes>) -> Result<(), Memory>
         ensures { OnOk result (self.new ≡ joined self.old (only_given (record { letter = letter; value = value } ∷ []))) }
     {
         Ok(self.given.push(Given { letter, value })?)
     }
 
-    /// Puts an operand behind the others.
+    /// Puts an operand after the others.
     pub(crate) fn put_operand(&mut self, word: Bytes) -> Result<(), Memory>
         ensures { OnOk result (self.new ≡ joined self.old (only_operands (word ∷ []))) }
     {
         Ok(self.operands.push(word)?)
     }
 
-    /// Puts operands behind the others.
+    /// Puts operands after the others.
     pub(crate) fn put_operands(&mut self, words: &[Bytes]) -> Result<(), Memory>
         ensures { OnOk result (self.new ≡ joined self.old (only_operands words.now)) }
     {

@@ -56,7 +56,7 @@ pub fn what_is_read_was_there()
 {}
 
 impl Options {
-    /// Reads words behind what was read.
+    /// Reads words after what was read.
     fn read(&mut self, alloc: Global, rows: &[OptRow], words: &[Bytes]) -> Result<(), OptFault>
         requires { length words.now < 2 ^ 32 }
         ensures { Leaves no_memory (behind self.old (options_of rows.now words.now)) result self.new }
@@ -152,7 +152,7 @@ fn is_end(waiting: Option<Waiting>, word: &[u8]) -> bool
     waiting.is_none() && is_text(word, b"--")
 }
 
-/// The letters of a group, which stand behind the `-` of a longer word.
+/// The letters of a group, which stand after the `-` of a longer word.
 fn letters_of(word: &[u8]) -> Option<&[u8]>
     ensures { option_copied result ≡ letters_of word.now }
 {
@@ -162,7 +162,7 @@ fn letters_of(word: &[u8]) -> Option<&[u8]>
     }
 }
 
-/// Whether a word begins with `--`, by what stands behind its first `-`.
+/// Whether a word begins with `--`, by what stands after its first `-`.
 fn is_long(letters: &[u8]) -> bool
     ensures { result ≡ is_long letters.now }
 {

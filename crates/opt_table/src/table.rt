@@ -49,7 +49,7 @@ impl<const N: usize> OptTable<N> {
     }
 }
 
-/// The table of these letters, in rising order, with `value` behind each that has one: `letters![b'D', b'd', b'm' value]`.
+/// The table of these letters, in rising order, with `value` after each that has one: `letters![b'D', b'd', b'm' value]`.
 ///
 /// It is an expression. A function that writes it with letters that don't rise isn't proved.
 #[macro_export]

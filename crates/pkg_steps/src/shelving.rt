@@ -73,7 +73,7 @@ impl<T: TreeOps> Began<T> {
     }
 }
 
-/// Puts the paths of an area at which two trees differ behind others.
+/// Puts the paths of an area at which two trees differ after others.
 fn put_changed<T: TreeOps>(
     alloc: Global,
     items: &mut Vec<(Area, Path)>,

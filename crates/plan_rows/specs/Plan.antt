@@ -44,7 +44,7 @@ pub record IsRow (plan : Planned) (task : ℕ) (row : TaskRow) : Type 0 where
   pub lines : AreLines (lines_of row)
   pub steps : All IsStepRow row.steps
 
--- a plan: at most 512 tasks, each with its row; behind each prep stands the make of the same package; packages rise by
+-- a plan: at most 512 tasks, each with its row; after each prep stands the make of the same package; packages rise by
 -- name; the order is that of the needs
 pub record IsPlan (plan : Planned) : Type 0 where
   pub count : length plan.rows ≡ length plan.graph

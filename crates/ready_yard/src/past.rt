@@ -51,7 +51,7 @@ impl Past {
         }
     }
 
-    /// Puts a turn behind the others.
+    /// Puts a turn after the others.
     pub(crate) fn put(&mut self, graph: &Graph, workers: u32, past: &[Turn], turn: Turn)
         requires past { IsPast graph.now workers self.old.begun.items self.old.over.items self.old.hands.items past.now }
         requires legal { IsLegal graph.now workers past.now }

@@ -1,4 +1,4 @@
--- The faults of texts and of a selection, and that none is want of memory.
+-- The faults of texts and of a selection, and that none is out of memory.
 use Rattle.std.proofs.Common.{ℕ, ◌≡◌, ◌≢◌, ◌+◌, Bool, true, false, not, ◌&&◌, cond, List, [], ◌∷◌, ◌++◌, length, Option, Some, None, Result, Ok, Err, refl, ap, subst}
 use Rattle.std.specs.Prelude.{nat_le, codes}
 use Rattle.br_path.specs.Files.{FileMap}
@@ -34,7 +34,7 @@ use Rattle.recipe_plan.specs.Lines.{command_lines}
 use Rattle.recipe_plan.specs.Steps.{Stepped, steps_of, default_of, has_commands, copies, commands_of, hooks_before, hooks_behind, setting_of, is_set, setting, has_step_by, has_step, commands, step_row, put_row, put_step, task_steps}
 use Rattle.recipe_plan.specs.Rows.{row_of, task_row, put_rows, all_rows}
 
--- a fault of a text, which isn't want of memory
+-- a fault of a text, which isn't out of memory
 abbrev pub IsOfText : PlanFault → Type 0
 IsOfText (Expand owner variable cause) = cause ≢ no_value_memory
 IsOfText _ = ⊥
@@ -194,7 +194,7 @@ selecting_held (no_recipe name least) = tt
 selecting_held (no_list fault none each) = each_held each
 selecting_held (selected packages chosen none each are checked) = checked_held checked
 
--- want of memory itself holds none
+-- out of memory itself holds none
 pub held_unless : (fault : PlanFault) → (fault ≢ Memory → HoldsNoMemory fault) → HoldsNoMemory fault
 held_unless (WrongName path) held = tt
 held_unless (Recipe path cause) held = tt

@@ -210,7 +210,7 @@ reached_named one node end (next ∷ rest) (step, steps) = reached_named one nex
 
 -- ---- prep tasks of places
 
--- the prep tasks of the packages at places, but for one
+-- the prep tasks of the packages at places, except for one
 abbrev pub preps_of : ℕ → List ℕ → List ℕ
 preps_of own places = map (λ place. 2 * place) (filter (λ place. not (eqb (2 * place) own)) places)
 
@@ -242,7 +242,7 @@ preps_are own places task =
           (k, omega (arith, length-map kept twice), get_or-map twice kept k place task inside ∙ ap twice is ∙ sym same),
     )
 
--- tasks are the prep tasks of the packages at places, but for one
+-- tasks are the prep tasks of the packages at places, except for one
 abbrev pub ArePreps : ℕ → List ℕ → List ℕ → Type 0
 ArePreps own places tasks = (task : ℕ) → Contains tasks task ↔ ((place : ℕ) × Contains places place × (task ≡ task_at Prep place) × (task ≢ own))
 

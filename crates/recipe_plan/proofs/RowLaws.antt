@@ -36,7 +36,7 @@ module _ {own vars : Table} (needs : Needs) (rows : List TaskRow) (item : Listed
       sym (subst (λ table. put_rows table needs rows item ≡ put_task own needs more item Make) same (puts_in_turn own needs rows item ∙ ap (λ r. r >>= λ more. put_task own needs more item Make) is))
 
 module _ (vars : Table) (needs : Needs) (item : Listed) (part : Part) {items rows : List TaskRow} (held : items ≡ rows) where
-  -- the row of a task is put behind the others, or its fault ends it
+  -- the row of a task is put after the others, or its fault ends it
   pub row_fails : (fault : PlanFault) → task_row vars needs item part (length items) ≡ Err fault → put_task vars needs rows item part ≡ Err fault
   row_fails fault fails = subst (λ list. put_task vars needs list item part ≡ Err fault) held (ap (λ r. r >>= λ row. Ok (items ++ row ∷ [])) fails)
 
@@ -44,7 +44,7 @@ module _ (vars : Table) (needs : Needs) (item : Listed) (part : Part) {items row
   row_put row more made is =
       subst (λ list. put_task vars needs list item part ≡ Ok more) held (ap (λ r. r >>= λ row. Ok (items ++ row ∷ [])) made ∙ ap Ok (sym is))
 
--- two rows are put behind the others
+-- two rows are put after the others
 put_is : (vars : Table) (needs : Needs) (rows : List TaskRow) (item : Listed) (more : List TaskRow) → put_rows vars needs rows item ≡ Ok more
     → (prep make : TaskRow) × (task_row vars needs item Prep (length rows) ≡ Ok prep) × (task_row vars needs item Make (length rows + 1) ≡ Ok make) × (rows ++ prep ∷ make ∷ [] ≡ more)
 put_is vars needs rows item more is =
@@ -83,7 +83,7 @@ module _ (vars : Table) (needs : Needs) where
         → task_row vars needs item Prep first ≡ Ok prep → task_row vars needs item Make (first + 1) ≡ Ok make → AreRows (first + 2) chosen rows
         → AreRows first (item ∷ chosen) (prep ∷ make ∷ rows)
 
-  -- the rows behind others
+  -- the rows after others
   rows_behind : (before : List TaskRow) (chosen : List Listed) (rows : List TaskRow) → in_turn (put_rows vars needs) before chosen ≡ Ok rows
       → (behind : List TaskRow) × (rows ≡ before ++ behind) × AreRows (length before) chosen behind
   rows_behind before [] rows is =

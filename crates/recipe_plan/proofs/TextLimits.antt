@@ -105,7 +105,7 @@ short_lines text =
 
 -- ---- the texts of a task
 
--- lines behind texts of so many bytes: each line has a byte of its own, and none passes the limit
+-- lines after texts of so many bytes: each line has a byte of its own, and none passes the limit
 pub record AreTexts (before : ℕ) (texts : Texts) : Type 0 where
   pub lines : length texts.0 + before ≤ texts.1
   pub limit : texts.1 ≤ text_limit
@@ -175,7 +175,7 @@ copies_extracts vars made Target copied = absurd (cc)
 abbrev pub step_lines : StepRow → List CommandLine
 step_lines step = step.before ++ step.lines ++ step.after
 
--- what is run in a step, behind texts of so many bytes
+-- what is run in a step, after texts of so many bytes
 record IsStepped (before : ℕ) (row : StepRow × ℕ) : Type 0 where
   lines : length (step_lines row.0) + before ≤ row.1
   limit : row.1 ≤ text_limit

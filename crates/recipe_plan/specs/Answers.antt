@@ -14,7 +14,7 @@ abbrev pub in_turn : {S X : Type 0} → (S → X → Result S PlanFault) → S �
 in_turn put made [] = Ok made
 in_turn put made (x ∷ xs) = put made x >>= λ more. in_turn put more xs
 
--- an answer of the code is that of a definition, but that want of memory may be answered whatever there is
+-- an answer of the code is that of a definition, but that out of memory may be answered whatever there is
 abbrev pub Gives : {A : Type 0} → Result A PlanFault → Result A PlanFault → Type 0
 Gives meant (Ok value) = meant ≡ Ok value
 Gives meant (Err fault) = fault ≢ Memory → meant ≡ Err fault

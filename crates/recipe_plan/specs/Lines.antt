@@ -13,7 +13,7 @@ is_mark byte = is_blank byte || byte == 64 || byte == 45
 abbrev pub front_length : List ℕ → ℕ
 front_length line = unwrap_or (position (λ byte. not (is_mark byte)) line) (length line)
 
--- a line of a shell: what stands behind its front; a `-` in the front says that its failure is ignored
+-- a line of a shell: what stands after its front; a `-` in the front says that its failure is ignored
 abbrev pub command_line : List ℕ → CommandLine
 command_line line = record { ignore = list_any (λ byte. byte == 45) (take (front_length line) line); text = drop (front_length line) line }
 

@@ -38,11 +38,11 @@ row_of item part task needs steps = record {
 abbrev pub task_row : Table → Needs → Listed → Part → ℕ → Result TaskRow PlanFault
 task_row vars needs item part task = task_steps vars item.made part >>= λ steps. Ok (row_of item part task (needs_of needs task) steps)
 
--- the row of a package's task behind those of the tasks before it
+-- the row of a package's task after those of the tasks before it
 abbrev pub put_task : Table → Needs → List TaskRow → Listed → Part → Result (List TaskRow) PlanFault
 put_task vars needs rows item part = task_row vars needs item part (length rows) >>= λ row. Ok (rows ++ row ∷ [])
 
--- the rows of a package's two tasks behind those of the packages before it
+-- the rows of a package's two tasks after those of the packages before it
 abbrev pub put_rows : Table → Needs → List TaskRow → Listed → Result (List TaskRow) PlanFault
 put_rows vars needs rows item =
     task_row vars needs item Prep (length rows) >>= λ prep. task_row vars needs item Make (length rows + 1) >>= λ make. Ok (rows ++ prep ∷ make ∷ [])

@@ -30,7 +30,7 @@ step_name Host = codes "INSTALL"
 step_name Staging = codes "INSTALL_STAGING"
 step_name Target = codes "INSTALL_TARGET"
 
--- a variable of a package's step, by what stands before and behind the step's name
+-- a variable of a package's step, by what stands before and after the step's name
 abbrev pub variable_of : Made → List ℕ → Step → List ℕ → List ℕ
 variable_of made front step back = upper_form made.name ++ (front ++ (step_name step ++ back))
 
@@ -99,7 +99,7 @@ has_step vars made step = has_step_by vars made step (default_of step)
 abbrev pub copies : Table → Made → Step → Bool
 copies vars made step = is_extract step && not (is_set vars (commands_of made step))
 
--- the lines of a step's commands, behind texts of so many bytes
+-- the lines of a step's commands, after texts of so many bytes
 abbrev pub commands : Table → Made → ℕ → Step → Result Texts PlanFault
 commands vars made bytes step =
     if has_commands step && not (copies vars made step) then put_variable vars made ([], bytes) (commands_of made step) else Ok ([], bytes)
@@ -108,17 +108,17 @@ commands vars made bytes step =
 abbrev pub Stepped : Type 0
 Stepped = List StepRow × ℕ
 
--- what is run in a step that the package has, behind texts of so many bytes
+-- what is run in a step that the package has, after texts of so many bytes
 abbrev pub step_row : Table → Made → ℕ → Step → Result (StepRow × ℕ) PlanFault
 step_row vars made bytes step =
     hooks vars made bytes (hooks_before made step) >>= λ before. commands vars made before.1 step >>= λ lines. hooks vars made lines.1 (hooks_behind made step) >>= λ after.
     Ok (record { step = step; before = before.0; copy_source = copies vars made step; lines = lines.0; after = after.0 }, after.1)
 
--- a step that the package has, behind others
+-- a step that the package has, after others
 abbrev pub put_row : Table → Made → Stepped → Step → Result Stepped PlanFault
 put_row vars made steps step = step_row vars made steps.1 step >>= λ row. Ok (steps.0 ++ row.0 ∷ [], row.1)
 
--- a step behind others, if the package has it
+-- a step after others, if the package has it
 abbrev pub put_step : Table → Made → Stepped → Step → Result Stepped PlanFault
 put_step vars made steps step = has_step vars made step >>= λ has. if has then put_row vars made steps step else Ok steps
 

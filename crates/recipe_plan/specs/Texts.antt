@@ -38,15 +38,15 @@ Texts = List CommandLine × ℕ
 abbrev pub text_limit : ℕ
 text_limit = 262144
 
--- the lines of a variable's text behind others; a text that passes the limit is at fault
+-- the lines of a variable's text after others; a text that passes the limit is at fault
 abbrev pub put_text : Made → List ℕ → Texts → List ℕ → Result Texts PlanFault
 put_text made variable texts text =
     if nat_le (texts.1 + length text) text_limit then Ok (texts.0 ++ command_lines text, texts.1 + length text) else Err (Expand made.name variable TooCostly)
 
--- the lines of a variable's value behind others
+-- the lines of a variable's value after others
 abbrev pub put_variable : Table → Made → Texts → List ℕ → Result Texts PlanFault
 put_variable vars made texts variable = value vars made variable >>= λ text. put_text made variable texts text
 
--- the lines of the hooks that a variable names, behind texts of so many bytes
+-- the lines of the hooks that a variable names, after texts of so many bytes
 abbrev pub hooks : Table → Made → ℕ → List ℕ → Result Texts PlanFault
 hooks vars made bytes variable = value vars made variable >>= λ names. in_turn (put_variable vars made) ([], bytes) (words names)

@@ -5,7 +5,7 @@
 //! packages that it depends on, or that must be made before it is extracted; a prep needs the makes of the latter, and the preps
 //! of those that must be extracted before it is patched.
 //!
-//! A step has hooks before it, commands, and hooks behind it. The hooks `PRE_EXTRACT` of `foo` are the variables that the words
+//! A step has hooks before it, commands, and hooks after it. The hooks `PRE_EXTRACT` of `foo` are the variables that the words
 //! of `FOO_PRE_EXTRACT_HOOKS` name, in their order and with repeats. Each variable is expanded as a reference to it, with `@D` for the folder that the
 //! package is built in, and cut at its newlines; lines of blanks alone are dropped. A package is installed into the staging
 //! area where `FOO_INSTALL_STAGING` is `YES`, and into the root file system unless `FOO_INSTALL_TARGET` is set and isn't.

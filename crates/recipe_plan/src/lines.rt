@@ -7,7 +7,7 @@ use mk_expand::is_blank;
 use plan_rows::CommandLine;
 use std::alloc::Global;
 
-/// Puts the lines of a text behind others: what stands between its newlines, but for lines of blanks alone.
+/// Puts the lines of a text after others: what stands between its newlines, except for lines of blanks alone.
 pub(crate) fn put_lines(
     alloc: Global,
     lines: &mut Vec<CommandLine>,

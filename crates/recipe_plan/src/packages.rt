@@ -66,7 +66,7 @@ fn package_graph(alloc: Global, plan: &Plan) -> Result<Graph, Memory>
     Ok(graph)
 }
 
-/// Lets the package of a task need the packages of what the task needs, but for itself.
+/// Lets the package of a task need the packages of what the task needs, except for itself.
 fn put_packages(graph: &mut Graph, task: u32, needs: &[u32]) -> Result<(), Memory>
     requires task { task < 2 * length graph.old }
     requires needs { All (λ need. need < 2 * length graph.old) needs.now }
@@ -80,7 +80,7 @@ fn put_packages(graph: &mut Graph, task: u32, needs: &[u32]) -> Result<(), Memor
     Ok(())
 }
 
-/// The prep tasks of the packages at these places, but for one of them.
+/// The prep tasks of the packages at these places, except for one of them.
 fn preps(alloc: Global, places: &[u32], own: u32) -> Result<Numbers, Memory>
     requires rising { IsStrictlyIncreasing places.now }
     requires few { All (λ place. place < 256) places.now }

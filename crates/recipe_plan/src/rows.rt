@@ -37,7 +37,7 @@ pub(crate) fn all_rows(
     Ok(rows)
 }
 
-/// Puts the rows of a package's two tasks behind those of the packages before it.
+/// Puts the rows of a package's two tasks after those of the packages before it.
 fn put_rows(
     alloc: Global,
     vars: &Vars,
@@ -54,7 +54,7 @@ fn put_rows(
     put_task(alloc, &owner, graph, rows, item, Part::Make)
 }
 
-/// Puts the row of a package's task behind those of the tasks before it.
+/// Puts the row of a package's task after those of the tasks before it.
 fn put_task(
     alloc: Global,
     owner: &Owner<'_>,

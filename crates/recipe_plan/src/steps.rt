@@ -78,7 +78,7 @@ impl Steps {
         }
     }
 
-    /// Puts a step behind the others, if the package has it.
+    /// Puts a step after the others, if the package has it.
     fn put_step(&mut self, alloc: Global, owner: &Owner<'_>, step: Step) -> Result<(), PlanFault>
         requires { IsOwner owner.now }
         ensures { Leaves (put_step owner.now.vars.now owner.now.made.now self.old step) result self.new }
@@ -90,7 +90,7 @@ impl Steps {
         Ok(())
     }
 
-    /// Puts a step that the package has behind the others.
+    /// Puts a step that the package has after the others.
     fn put_row(&mut self, alloc: Global, owner: &Owner<'_>, step: Step) -> Result<(), PlanFault>
         requires { IsOwner owner.now }
         ensures { Leaves (put_row owner.now.vars.now owner.now.made.now self.old step) result self.new }
@@ -108,7 +108,7 @@ impl Steps {
     }
 }
 
-/// What is run in a step that the package has, and how many bytes the texts have behind it.
+/// What is run in a step that the package has, and how many bytes the texts have after it.
 fn step_row(
     alloc: Global,
     owner: &Owner<'_>,
@@ -135,7 +135,7 @@ fn step_row(
     Ok((row, bytes))
 }
 
-/// The lines of the hooks before a step, or of those behind it, by what stands before the step's name.
+/// The lines of the hooks before a step, or of those after it, by what stands before the step's name.
 fn step_hooks(
     alloc: Global,
     owner: &Owner<'_>,
@@ -217,7 +217,7 @@ fn is_set(owner: &Owner<'_>, variable: &Bytes) -> bool
     owner.vars.is_simple(variable.as_slice()).is_some()
 }
 
-/// A variable of a package's step, by what stands before and behind the step's name.
+/// A variable of a package's step, by what stands before and after the step's name.
 fn variable(
     alloc: Global,
     owner: &Owner<'_>,

@@ -95,7 +95,7 @@ impl Model for Texts {
 }
 
 impl Texts {
-    /// No lines, behind texts of so many bytes.
+    /// No lines, after texts of so many bytes.
     pub(crate) fn behind(alloc: Global, bytes: usize) -> Texts
         requires { bytes ≤ 262144 }
         ensures { result ≡ ([], bytes) }
@@ -124,7 +124,7 @@ impl Texts {
         Ok(texts)
     }
 
-    /// Puts the lines of the values of variables behind the others, one after another.
+    /// Puts the lines of the values of variables after the others, one after another.
     fn put_variables(
         &mut self,
         alloc: Global,
@@ -156,7 +156,7 @@ impl Texts {
         Ok(texts)
     }
 
-    /// Puts the lines of a variable's value behind the others.
+    /// Puts the lines of a variable's value after the others.
     fn put_variable(
         &mut self,
         alloc: Global,
@@ -170,7 +170,7 @@ impl Texts {
         self.put_text(alloc, owner, variable, text.as_slice())
     }
 
-    /// Puts the lines of a variable's text behind the others. A text that passes the limit is a fault.
+    /// Puts the lines of a variable's text after the others. A text that passes the limit is a fault.
     fn put_text(
         &mut self,
         alloc: Global,

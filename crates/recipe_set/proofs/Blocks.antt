@@ -9,7 +9,7 @@ use Rattle.mk_syntax.specs.Grammar.{at_line, lines_text, IsBlock, IsBranches, Is
 use Rattle.mk_syntax.specs.Grammar as grammar
 use Rattle.recipe_set.specs.Block.{Block, Branches, nothing, statement, condition, done, another, last, flat, flat_branches, whats}
 
--- a block behind another
+-- a block after another
 then_block : Block → Block → Block
 then_block nothing more = more
 then_block (statement what is_plain block) more = statement what is_plain (then_block block more)
@@ -49,14 +49,14 @@ at_end true = refl
 whats-append : (front back : List Statement) → whats (front ++ back) ≡ whats front ++ whats back
 whats-append front back = map-append (λ s. s.what) front back
 
--- a statement behind a block
+-- a statement after a block
 one_behind : (statements : List Statement) (one : Statement) (blocked : Blocked statements) (more : Block) → flat more ≡ one.what ∷ [] → Blocked (statements ++ one ∷ [])
 one_behind statements one blocked more is = record {
   block = then_block blocked.block more;
   is = flat-then_block blocked.block more ∙ ap (λ rest. flat blocked.block ++ rest) is ∙ ap (λ front. front ++ one.what ∷ []) blocked.is ∙ sym (whats-append statements (one ∷ []));
 }
 
--- a condition behind a block
+-- a condition after a block
 condition_behind : (statements inner : List Statement) (end : Statement) (blocked : Blocked statements) → end.what ≡ EndIf → Opened inner (EndIf ∷ []) → Blocked ((statements ++ inner) ++ end ∷ [])
 condition_behind statements inner end blocked ends opened =
     let one : Block = condition opened.test opened.inner opened.branches nothing in
@@ -74,7 +74,7 @@ condition_behind statements inner end blocked ends opened =
           ∙ sym (whats-append (statements ++ inner) (end ∷ []));
     }
 
--- a branch behind others
+-- a branch after others
 branch_behind : (before : List Statement) (one : Statement) (statements : List Statement) (end : List What) (blocked : Blocked statements) →
     Opened before (one.what ∷ (flat blocked.block ++ end)) → Opened (before ++ one ∷ statements) end
 branch_behind before one statements end blocked opened = record {

@@ -17,7 +17,7 @@ symbol_more vars values place symbol valued at =
     ap (with_symbol (fold with_symbol vars (take place values))) (sym (get_or_from_slice_get values place one one at))
     ∙ sym (fold_more with_symbol vars values place one (slice_get_within values place one at))
 
--- the presets, one behind another, where the last is set
+-- the presets, one after another, where the last is set
 pub presets_set : {E : Type 0} (v0 v1 v2 v3 v4 v5 v6 : Table) (result : Result Unit E) → v1 ≡ with_preset v0 (codes "TARGET_DIR", codes "/output/target") →
     v2 ≡ with_preset v1 (codes "STAGING_DIR", codes "/output/staging") → v3 ≡ with_preset v2 (codes "HOST_DIR", codes "/output/host") →
     v4 ≡ with_preset v3 (codes "BUILD_DIR", codes "/output/build") → v5 ≡ with_preset v4 (codes "INSTALL", codes "install") →

@@ -16,7 +16,7 @@ use Rattle.recipe_set.specs.Steps.{Meets, Steps, Runs, is_reading, at, kept, bra
 use Rattle.recipe_set.proofs.Skipping.{RunOn, step_on, meets, skips, skip_block, meet, behind_taken}
 
 module _ (folder : List ℕ) where
-  -- what comes behind a block goes on from there; a fault is the end of all
+  -- what comes after a block goes on from there; a fault is the end of all
   abbrev pub Onward : Outcome → List Branch → List What → Result Reader PlanFault → Type 0
   Onward (Ok draft) around rest end = Runs folder (at draft around) rest end
   Onward (Err fault) around rest end = end ≡ Err fault
@@ -34,12 +34,12 @@ module _ (folder : List ℕ) where
   kept_on (Ok draft) around rest end on = on
   kept_on (Err fault) around rest end on = on
 
-  -- behind a taken branch come the others of its condition
+  -- after a taken branch come the others of its condition
   taken_on : (next : Outcome) (branches : Branches) (around : List Branch) (rest : List What) (end : Result Reader PlanFault) → Onward next around rest end → Onward next (Taken ∷ around) (flat_branches branches ++ rest) end
   taken_on (Ok draft) branches around rest end on = behind_taken folder draft end branches around rest on
   taken_on (Err fault) branches around rest end on = on
 
-  -- behind the last branch comes the end of its condition
+  -- after the last branch comes the end of its condition
   last_on : (next : Outcome) (around : List Branch) (rest : List What) (end : Result Reader PlanFault) → Onward next around rest end → Onward next (Taken ∷ around) (EndIf ∷ rest) end
   last_on (Ok draft) around rest end on = meet folder draft end (Taken ∷ around) around EndIf rest refl refl on
   last_on (Err fault) around rest end on = on

@@ -25,7 +25,7 @@ child_fault-path path name is_path =
     ∙ ap (λ f. option_or f (cond (nat_lt 1024 (length (path_text (path ++ name ∷ [])))) (Some TooLong) None)) named
     ∙ ap (λ b. cond b (Some TooLong) None) short
 
--- so none is answered but want of memory
+-- so none is answered but out of memory
 pub no_answer : (there : Option PathFault) (fault : PathFault) → (fault ≡ no_memory → ⊥) → IsAnswered there fault → there ≡ None → ⊥
 no_answer there no_memory not_memory answered none = not_memory refl
 no_answer there Empty not_memory answered none = let e : Some Empty ≡ None = sym answered ∙ none in absurd (cc)

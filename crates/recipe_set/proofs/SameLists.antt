@@ -30,7 +30,7 @@ sorted_by {X = X} R f (x ∷ xs) rises = (above xs rises.0, sorted_by R f xs ris
     above (y ∷ ys) all = (all.0, above ys all.1)
 
 module _ {X : Type 0} (R : X → X → Ordering) (apart : (x y : X) → R x y ≡ Less → R y x ≡ Less → ⊥) where
-  -- what stands behind the first is above it
+  -- what stands after the first is above it
   above_first : (x : X) (xs : List X) (k : X) → IsStrictlySortedBy R (x ∷ xs) → Contains xs k → R x k ≡ Less
   unfolding IsStrictlySortedBy
   above_first x xs k rises inside = All-contains (λ y. R x y ≡ Less) xs k (All-from_recursion (λ y. R x y ≡ Less) xs rises.0) inside

@@ -12,7 +12,7 @@ use Rattle.recipe_set.specs.Block.{Block, Branches, nothing, statement, conditio
 use Rattle.recipe_set.specs.Steps.{Meets, Skips, Takes, Steps, Runs, stopped, onward, is_reading, at}
 
 module _ (folder : List ℕ) where
-  -- statements behind a step
+  -- statements after a step
   abbrev pub RunOn : Result Reader PlanFault → List What → Result Reader PlanFault → Type 0
   RunOn (Ok reader) rest end = Runs folder reader rest end
   RunOn (Err fault) rest end = end ≡ Err fault
@@ -59,7 +59,7 @@ module _ (folder : List ℕ) where
           append_assoc (flat inner) (flat_branches branches ++ flat block) rest ∙ ap (λ r. flat inner ++ r) (append_assoc (flat_branches branches) (flat block) rest) in
           subst (λ r. Ends around (If test ∷ r)) (sym same) (skip around (Passed ∷ around) (If test) (flat inner ++ (flat_branches branches ++ (flat block ++ rest))) dead refl inside)
 
-      -- behind what was left out
+      -- after what was left out
       pub skip_branches : (branches : Branches) (around : List Branch) (rest : List What) → Ends around rest → Ends (Passed ∷ around) (flat_branches branches ++ rest)
       skip_branches done around rest runs = skip (Passed ∷ around) around EndIf rest refl refl runs
       skip_branches (another test inner branches) around rest runs =
@@ -75,7 +75,7 @@ module _ (folder : List ℕ) where
     pub meet : (around next : List Branch) (what : What) (rest : List What) → is_reading around ≡ true → Meets folder draft around what (Ok (at draft next)) → Ends next rest → Ends around (what ∷ rest)
     meet around next what rest live step runs = step_on (at draft around) what rest (Ok (at draft next)) end (meets draft around what (Ok (at draft next)) live step) runs
 
-    -- behind the branch that was taken
+    -- after the branch that was taken
     pub behind_taken : (branches : Branches) (around : List Branch) (rest : List What) → Ends around rest → Ends (Taken ∷ around) (flat_branches branches ++ rest)
     behind_taken done around rest runs = meet (Taken ∷ around) around EndIf rest refl refl runs
     behind_taken (another test inner branches) around rest runs =

@@ -8,7 +8,7 @@ use Rattle.mk_syntax.specs.Grammar.{IsPlain}
 
 mutual
   -- a block: nothing, or a statement that is no part of a condition, or a condition with the block of its first branch,
-  -- and a block behind it
+  -- and a block after it
   pub data Block : Type 0 where
     nothing : Block
     statement : (what : What) → IsPlain what → Block → Block

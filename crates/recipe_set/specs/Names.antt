@@ -37,6 +37,6 @@ upper_byte byte = if is_letter byte then byte - 32 else if byte == 45 || byte ==
 abbrev pub upper_form : List ℕ → List ℕ
 upper_form name = map upper_byte name
 
--- a folder's name that a recipe may have behind earlier ones: a package's name, with an upper-case form of its own
+-- a folder's name that a recipe may have after earlier ones: a package's name, with an upper-case form of its own
 abbrev pub is_allowed : List (List ℕ) → List ℕ → Bool
 is_allowed earlier name = is_package_name name && not (list_any (λ other. is_text (upper_form other) (upper_form name)) earlier)

@@ -41,7 +41,7 @@ mutual
     passed : {draft : Draft} {test : Test} {inner : Block} {branches : Branches} {end : Outcome} →
         Asks folder draft test (Ok false) → Turns folder draft branches end → Chooses folder draft test inner branches end
 
-  -- what the branches behind those that aren't taken make of it
+  -- what the branches after those that aren't taken make of it
   pub data Turns (folder : List ℕ) : Draft → Branches → Outcome → Type 0 where
     to_none : {draft : Draft} → Turns folder draft done (Ok draft)
     to_another : {draft : Draft} {test : Test} {inner : Block} {branches : Branches} {end : Outcome} →
@@ -52,7 +52,7 @@ mutual
 abbrev pub recipe_path : List ℕ → Names
 recipe_path folder = codes "package" ∷ folder ∷ (folder ++ codes ".mk") ∷ []
 
--- what the recipe of a folder makes of what is read before it, behind the recipes of these folders
+-- what the recipe of a folder makes of what is read before it, after the recipes of these folders
 pub data ReadsRecipe (earlier : List (List ℕ)) (draft : Draft) (folder text : List ℕ) : Outcome → Type 0 where
   wrong_name : is_allowed earlier folder ≡ false → ReadsRecipe earlier draft folder text (Err (WrongName (recipe_path folder)))
   no_recipe : (fault : MkFault) → is_allowed earlier folder ≡ true → IsFirstFault (joined_lines text) fault →

@@ -16,7 +16,7 @@ use Rattle.recipe_set.specs.declared.fault.PlanFault.TheVariants.{Expand, Memory
 use Rattle.recipe_set.specs.Fault.{HoldsNoMemory}
 use Rattle.recipe_set.specs.Effect.{Outcome, Is, Does, Asks}
 
--- a fault is one that may be answered; want of memory may be answered at all times
+-- a fault is one that may be answered; out of memory may be answered at all times
 abbrev pub IsRefusal : {A : Type 0} → (Result A PlanFault → Type 0) → PlanFault → Type 0
 IsRefusal May fault = HoldsNoMemory fault × (fault ≢ Memory → May (Err fault))
 
@@ -54,12 +54,12 @@ closed (branch ∷ around) = around
 abbrev pub at : Draft → List Branch → Reader
 at draft around = record { draft = draft; around = around }
 
--- behind a statement that is no part of a condition
+-- after a statement that is no part of a condition
 abbrev pub kept : List Branch → Outcome → Result Reader PlanFault
 kept around (Ok draft) = Ok (at draft around)
 kept around (Err fault) = Err fault
 
--- behind a test that was asked
+-- after a test that was asked
 abbrev pub branched : Draft → List Branch → Result Bool PlanFault → Result Reader PlanFault
 branched draft around (Ok true) = Ok (at draft (Taken ∷ around))
 branched draft around (Ok false) = Ok (at draft (Sought ∷ around))

@@ -7,7 +7,7 @@ use mk_syntax::MkFault;
 use std::alloc::{AllocError, AllocFailed};
 use thiserror::Error;
 
-/// Why files and values have no plan. Of several faults the one counts that comes first in this order, and want of memory
+/// Why files and values have no plan. Of several faults the one counts that comes first in this order, and out of memory
 /// may take any place:
 ///
 /// 1. recipe by recipe, in the order of their paths, `WrongName`, `Recipe`, and `Expand` while the recipe is read;
@@ -29,7 +29,7 @@ pub enum PlanFault {
     Recipe(Path, MkFault),
     /// A text that has no value, with the package and the variable that it is expanded for. While a recipe is read these are
     /// the name of its folder and the variable that is set, or `ifeq` for a condition; of lists, the made package and the
-    /// variable of the list; of steps, the selected package and the hook or variable. The fault is never want of memory.
+    /// variable of the list; of steps, the selected package and the hook or variable. The fault is never out of memory.
     #[error("a text has no value: {fault}")]
     Expand {
         package: Bytes,
@@ -54,7 +54,7 @@ pub enum PlanFault {
     /// The least task on a cycle of needs.
     #[error("task {0} needs itself")]
     Cycle(u32),
-    /// Want of memory.
+    /// Out of memory.
     #[error("no memory")]
     Memory,
 }

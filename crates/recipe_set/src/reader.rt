@@ -104,7 +104,7 @@ impl Reader {
         }
     }
 
-    /// A further branch behind the one that was taken.
+    /// A further branch after the one that was taken.
     fn pass(&mut self) -> Result<(), PlanFault>
         ensures { IsStep (Is (Ok (at self.old.draft (passed self.old.around)))) result self.new }
     {

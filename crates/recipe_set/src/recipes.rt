@@ -118,7 +118,7 @@ fn read_all(alloc: Global, recipes: &[RecipeFile<'_>], mut draft: Draft) -> Resu
     Ok(draft)
 }
 
-/// Reads a recipe, behind those whose upper-case forms these are.
+/// Reads a recipe, after those whose upper-case forms these are.
 fn read_recipe(
     alloc: Global,
     forms: &mut BTreeSet<Bytes>,
@@ -139,7 +139,7 @@ fn read_recipe(
     }
 }
 
-/// The statements of a recipe, behind those whose upper-case forms these are.
+/// The statements of a recipe, after those whose upper-case forms these are.
 fn statements_of(
     alloc: Global,
     forms: &mut BTreeSet<Bytes>,
@@ -177,7 +177,7 @@ fn not_read(path: &Path, fault: MkFault) -> PlanFault
     }
 }
 
-/// Whether a recipe's folder may have this name behind those whose upper-case forms these are; its own is put to them.
+/// Whether a recipe's folder may have this name after those whose upper-case forms these are; its own is put to them.
 fn is_allowed(alloc: Global, forms: &mut BTreeSet<Bytes>, name: &Bytes) -> Result<bool, Memory>
     ensures allowed { (earlier : List (List ℕ)) → AreFormsOf earlier forms.old → IfOk result (λ allowed. allowed ≡ is_allowed earlier name.now) }
     ensures forms { (earlier : List (List ℕ)) → AreFormsOf earlier forms.old → IfOk result (λ allowed. allowed ≡ true → AreFormsOf (earlier ++ name.now ∷ []) forms.new) }

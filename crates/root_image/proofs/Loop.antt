@@ -84,7 +84,7 @@ no-newline text none = slice_split_none (λ byte. byte == 10) text (All-position
 pub some-lines : (text : List ℕ) → 1 ≤ length (lines_of text)
 some-lines text = omega (arith, length-slice_split (λ byte. byte == 10) text)
 
--- where a root is meant, nothing but want of memory is answered in its place
+-- where a root is meant, nothing but out of memory is answered in its place
 pub err-only : (meant : Result Entries ImageFault) (root : Entries) (error : ImageError) → meant ≡ Ok root → Refuses meant error → Answers (Ok root) (Err error)
 err-only meant root (Fault fault) is refuses = sym is ∙ refuses
 err-only meant root Memory is refuses = tt

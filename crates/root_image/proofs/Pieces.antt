@@ -16,7 +16,7 @@ drop_front zero one two under = refl
 drop_front (suc n) [] two under = absurd (omega arith)
 drop_front (suc n) (b ∷ one) two under = drop_front n one two (omega arith)
 
--- one piece more behind full ones
+-- one piece more after full ones
 pub pieces_more : (count : ℕ) (bytes piece : List ℕ) → length bytes ≡ count * 32 → length piece ≤ 32 → pieces_from (suc count) (bytes ++ piece) ≡ pieces_from count bytes ++ piece ∷ []
 pieces_more zero bytes piece full short =
     let none = no_bytes bytes (omega arith) in

@@ -20,7 +20,7 @@ use Rattle.root_image.specs.Reading.{Place, AtHead, Between, InFile, InLink, InS
 use Rattle.root_image.specs.Spelling.{IsLine, IsNumbered, MayStand}
 use Rattle.root_image.proofs.Digits.{passed, map_some, then_some, mode_of-octal, octal-mode_of, number_of-decimal, decimal-number_of, is_number-decimal, digits_within, bytes_of-encode, encode-bytes_of}
 
--- what stands behind a word
+-- what stands after a word
 pub behind-some : (word text rest : List ℕ) → behind word text ≡ Some rest → text ≡ word ++ rest
 behind-some word text rest is =
     let passes = passed (is_text (take (length word) text) word) (drop (length word) text) rest is in

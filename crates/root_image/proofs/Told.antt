@@ -115,7 +115,7 @@ fits-more past [] path entry each fits = (subst (λ p. Fits p path entry) (appen
 fits-more past (e ∷ entries) path entry each fits =
     (each.0, fits-more (past ++ e ∷ []) entries path entry each.1 (subst (λ p. Fits p path entry) (sym (append_assoc past (e ∷ []) entries)) fits))
 
--- an entry more is told by its lines, behind those before it
+-- an entry more is told by its lines, after those before it
 entry-tells : (entries : Entries) (path : Names) (entry : RootEntry) (lines : List Line) → FitEach [] entries → Fits entries path entry → (HeadLine ∷ all_lines entries ++ entry_lines path entry) ≡ lines → Tells (with_entry entries path entry) lines
 entry-tells entries path entry lines each fits is = record {
   lines_are = ap (λ l. HeadLine ∷ l) (all-more entries path entry) ∙ is;

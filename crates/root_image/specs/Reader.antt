@@ -87,7 +87,7 @@ read_by take state number [] = at_end state number []
 read_by take state number (rest ∷ []) = at_end state number rest
 read_by take state number (line ∷ next ∷ lines) = go_on (take state line) number (λ new. read_by take new (number + 1) (next ∷ lines))
 
--- what is wrong with what follows the last newline: nothing may follow, and only behind the last line
+-- what is wrong with what follows the last newline: nothing may follow, and only after the last line
 abbrev pub end_kind : Place → List ℕ → Option ImageKind
 end_kind Ended [] = None
 end_kind Ended (byte ∷ bytes) = Some After
@@ -102,7 +102,7 @@ abbrev pub error_at : ℕ → Refusal → ImageError
 error_at line (refused kind) = Fault (record { line = line; kind = kind })
 error_at line no_memory = Memory
 
--- an error is the fault that is meant, or want of memory
+-- an error is the fault that is meant, or out of memory
 abbrev pub Refuses : Result Entries ImageFault → ImageError → Type 0
 Refuses meant (Fault fault) = meant ≡ Err fault
 Refuses meant Memory = Unit {0}

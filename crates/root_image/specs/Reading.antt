@@ -14,7 +14,7 @@ use Rattle.root_image.specs.Roots.{last_of, rises, has_place, has_first, is_link
 use Rattle.root_image.specs.Words.{path_at, entry_line, head_line, text_line, bytes_line}
 
 -- where the reader stands: before the first line, between entries, in a file with its bytes so far, in a link, in another
--- name of a file, or behind the last line
+-- name of a file, or after the last line
 pub data Place : Type 0 where
   AtHead : Place
   Between : Place
@@ -110,7 +110,7 @@ line_in (InSame path) text = text_line text
 line_in (InFile path mode size bytes) text = bytes_line text
 line_in Ended text = None
 
--- a text that is no line: behind the end no line can stand
+-- a text that is no line: after the end no line can stand
 abbrev pub no_line : Place → ImageKind
 no_line AtHead = Form
 no_line Between = Form
@@ -126,7 +126,7 @@ on_line entries place (Some line) = step_in entries place line
 abbrev pub step : State → List ℕ → Result State ImageKind
 step state text = on_line state.entries state.place (line_in state.place text)
 
--- what follows the last newline: nothing, behind the last line
+-- what follows the last newline: nothing, after the last line
 abbrev pub end_in : Entries → Place → ℕ → List ℕ → Result Entries ImageFault
 end_in entries Ended number [] = Ok entries
 end_in entries Ended number (byte ∷ bytes) = Err (record { line = number; kind = After })

@@ -1,4 +1,4 @@
--- Root file systems: which entries can stand in one, and behind which.
+-- Root file systems: which entries can stand in one, and after which.
 use Rattle.std.specs.Prelude.{◌≡◌, ℕ, ◌-◌, ◌<◌, ◌≤◌, ◌^◌, Bool, true, false, ◌&&◌, ◌||◌, ◌==◌, nat_eq, nat_le, List, [], ◌∷◌, ◌++◌, length, All, Option, Some, None}
 use Rattle.std.specs.List.{list_any, list_all, slice_get}
 use Rattle.std.specs.Cmp.Lexicographic.{pointwise}
@@ -60,18 +60,18 @@ IsSaid past (Link text) = is_link_text text ≡ true
 IsSaid past (First mode bytes) = (mode < 4096) × (length bytes < 2 ^ 63) × All (λ byte. byte < 256) bytes
 IsSaid past (Same first) = IsPath first × (has_first past first ≡ true)
 
--- an entry can stand behind others
+-- an entry can stand after others
 pub record Fits (past : Entries) (path : Names) (entry : RootEntry) : Type 0 where
   pub legal : IsPath path
   pub stands : Stands past path (is_dir entry)
   pub said : IsSaid past entry
 
--- each entry can stand behind those before it
+-- each entry can stand after those before it
 abbrev pub FitEach : Entries → Entries → Type 0
 FitEach past [] = Unit {0}
 FitEach past (entry ∷ entries) = Fits past entry.0 entry.1 × FitEach (past ++ entry ∷ []) entries
 
--- the entries of a root: there is one at least, and each can stand behind those before it
+-- the entries of a root: there is one at least, and each can stand after those before it
 pub record IsRoot (entries : Entries) : Type 0 where
   pub filled : 1 ≤ length entries
   pub few : length entries < 2 ^ 63

@@ -7,7 +7,7 @@ use Rattle.br_path.specs.PathFault.{path_fault}
 use Rattle.br_path.specs.Text.{is_text, is_digit}
 use Rattle.root_image.specs.Lines.{Line, HeadLine, DirLine, LinkLine, FileLine, SameLine, TextLine, BytesLine, EndLine}
 
--- what stands behind a word, if the text begins with it
+-- what stands after a word, if the text begins with it
 abbrev pub behind : List ℕ → List ℕ → Option (List ℕ)
 behind word text = if is_text (take (length word) text) word then Some (drop (length word) text) else None
 
@@ -20,7 +20,7 @@ mode_of (a ∷ b ∷ c ∷ d ∷ []) =
     if is_octal a && is_octal b && is_octal c && is_octal d then Some ((a - 48) * 512 + (b - 48) * 64 + (c - 48) * 8 + (d - 48)) else None
 mode_of other = None
 
--- the number that digits write, behind the one that was written so far
+-- the number that digits write, after the one that was written so far
 abbrev pub number_on : ℕ → List ℕ → ℕ
 number_on number [] = number
 number_on number (digit ∷ digits) = number_on (number * 10 + (digit - 48)) digits

@@ -10,7 +10,7 @@ pub enum ImageError {
     /// The first fault of the text.
     #[error("a fault in an image")]
     Fault(ImageFault),
-    /// Want of memory.
+    /// Out of memory.
     #[error("no memory")]
     Memory,
 }

@@ -11,7 +11,7 @@ ghost use Rattle.br_path.specs.Text.{is_digit};
 use br_path::{Memory, Path, PathFault, is_digit};
 use std::alloc::Global;
 
-/// What stands behind a word, if the text begins with it.
+/// What stands after a word, if the text begins with it.
 pub(crate) fn behind<'t>(text: &'t [u8], word: &[u8]) -> Option<&'t [u8]>
     ensures { option_copied result ≡ behind word.now text.now }
 {

@@ -27,7 +27,7 @@ pub(crate) enum Stand {
     Same(Path),
     /// In a file, with its bytes so far.
     File(OpenFile),
-    /// Behind the last line.
+    /// After the last line.
     End,
 }
 

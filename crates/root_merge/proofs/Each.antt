@@ -67,7 +67,7 @@ one-standing path (x ∷ y ∷ ws) apart w v one two first second stands other =
     two-at-least : (n : ℕ) → nat_le 2 (suc (suc n)) ≡ true
     two-at-least n = le-leb 2 (suc (suc n)) (omega arith)
 
--- what is found in a list is found where more stands behind it
+-- what is found in a list is found where more stands after it
 find-front : (q : Names) (v : Standing) (xs ys : List (Names × Standing)) → find path_cmp q xs ≡ Some v → find path_cmp q (xs ++ ys) ≡ Some v
 find-front q v [] ys is = let none : ◌≡◌ {A = Option Standing} None (Some v) = is in cc
 find-front q v (x ∷ xs) ys is = by (eq_by_cmp path_cmp q x.0) (find-front q v xs ys) is

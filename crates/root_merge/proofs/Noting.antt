@@ -17,7 +17,7 @@ use Rattle.tree_ops.specs.Change.{is_path}
 use Rattle.task_shelves.specs.Packages.{Left, is_area, has_written, wrote}
 use Rattle.root_merge.specs.Found.{Makes, is_last, ends_with, with_make, noted, noted_if, all_noted, makes_at, some_makes, AreWriters}
 
--- a make that is noted stands behind those from before
+-- a make that is noted stands after those from before
 abbrev pub noted_after : ℕ → Bool → List ℕ → List ℕ
 noted_after make true before = before ++ make ∷ []
 noted_after make false before = before
@@ -61,7 +61,7 @@ no_tie : (at path : Names) → is_path at path ≡ false → eq_by_cmp path_cmp 
 no_tie at path other = sym ((eq_by_cmp_equiv path_total).symm at path) ∙ sym (lists_ties (slice_cmp nat_cmp) texts_ties at path) ∙ other
 
 module _ (make : ℕ) (before : Names → List ℕ) where
-  -- at some paths the make is noted, behind those from before
+  -- at some paths the make is noted, after those from before
   abbrev AreNoted : Makes → (Names → Bool) → Type 0
   AreNoted makes done = (path : Names) → fin.get makes path ≡ some_makes (noted_after make (done path) (before path))
 

@@ -16,7 +16,7 @@ noted-is m n makes make path found new shown there is updates =
     ∙ ap (fin.insert (fin.from_entries {R = path_cmp} m.entries) path) (is ∙ ap (λ (o : Option (List ℕ)). with_make make (unwrap_or o [])) (sym (get-entries_of path_total m path ∙ there)))
     ∙ ap (noted make path) shown
 
--- behind those that the path has
+-- after those that the path has
 pub noted-there : (m n : BTreeMap Names (List ℕ)) (makes : Makes) (make : ℕ) (path : Names) (old new : List ℕ) → fin.from_entries {R = path_cmp} m.entries ≡ makes → Some old ≡ tree.get path_cmp m path
     → new ≡ with_make make old → (IsSome (tree.get path_cmp m path) → UpdatesBy path_cmp (path_cmp path) m n (Some new)) → fin.from_entries {R = path_cmp} n.entries ≡ noted make path makes
 noted-there m n makes make path old new shown there is updates = noted-is m n makes make path (Some old) new shown (sym there) is (updates (ap is_some (sym there))).0

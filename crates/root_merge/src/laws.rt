@@ -20,7 +20,7 @@ pub fn order_has_no_effect()
         → fin.get (root_of plan shelves) path ≡ Some (standing left.trees.target node) }
 {}
 
-/// All that stands in a root some package wrote, but for the root folder where none did.
+/// All that stands in a root some package wrote, except for the root folder where none did.
 #[tactic(auto, using(crate::proofs::Each::all_heard))]
 pub fn root_is_written()
     ensures { (plan : Planned) (shelves : ℕ → ShelfData) (path : Names) (s : Standing) → fin.get (root_of plan shelves) path ≡ Some s

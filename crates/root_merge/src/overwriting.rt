@@ -32,7 +32,7 @@ pub fn overwrites<S: Shelves>(alloc: Global, plan: &Plan, shelves: &S) -> Result
     Ok(Overwrites { items })
 }
 
-/// Puts the overwritten paths of an area behind others.
+/// Puts the overwritten paths of an area after others.
 fn put_overwrites<S: Shelves>(
     alloc: Global,
     items: &mut Vec<Overwrite>,
@@ -69,7 +69,7 @@ fn writers_in<S: Shelves>(
     Ok(writers)
 }
 
-/// Puts a path behind others if it is overwritten.
+/// Puts a path after others if it is overwritten.
 fn put_overwrite<S: Shelves>(
     alloc: Global,
     items: &mut Vec<Overwrite>,

@@ -16,7 +16,7 @@ use task_shelves::Shelves;
 ///
 /// The root is the union of what the packages wrote and left in their target trees, together with the root folder, which has
 /// the mode 0o755 where no package wrote it. A file stands whole at the least of its paths, and is named there by the others.
-/// Nothing but want of memory refuses it.
+/// Nothing but out of memory refuses it.
 ///
 /// The time is `n log n` in the written paths, and that of copying the bytes of each file once. Beside the root itself a copy
 /// of the least path of each file is held meanwhile.

@@ -59,13 +59,13 @@ err_maps P Q (Err fault) given maps = λ some. maps fault (given some)
 pub drop_item : {X : Type 0} (xs : List X) (i : ℕ) (x : X) → i < length xs → x ≡ get_or xs i x → drop i xs ≡ x ∷ drop (i + 1) xs
 drop_item xs i x short is = drop-cons xs i x short ∙ ap₂ (λ y n. y ∷ drop n xs) (sym is) (sym (add-one i))
 
--- an answer for what is left, behind what there is
+-- an answer for what is left, after what there is
 abbrev pub behind : {Y F : Type 0} → List Y → Result (List Y) F → Result (List Y) F
 behind there (Ok more) = Ok (there ++ more)
 behind there (Err fault) = Err fault
 
 module _ {X Y F : Type 0} (Gives : X → Result Y F → Type 0) where
-  -- whatever is given for what is left is given, behind what there is, for the whole
+  -- whatever is given for what is left is given, after what there is, for the whole
   abbrev pub IsAhead : List X → List Y → List X → Type 0
   IsAhead all there left = (answer : Result (List Y) F) → Each Gives left answer → Each Gives all (behind there answer)
 

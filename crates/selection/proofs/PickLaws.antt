@@ -102,7 +102,7 @@ names_of_made (item ∷ all) = ap (λ names. item.made.name ∷ names) (names_of
 pub all_rise : (all : List Listed) (made : List Made) → map (λ item. item.made) all ≡ made → IsStrictlySortedBy cmp (map (λ one. one.name) made) → IsStrictlySortedBy cmp (names_of all)
 all_rise all made same rising = subst (IsStrictlySortedBy cmp) (names_of_made all) (subst (λ m. IsStrictlySortedBy cmp (map (λ one. one.name) m)) (sym same) rising)
 
--- ---- behind the end
+-- ---- after the end
 
 pub slice_get_none : {X : Type 0} (xs : List X) (i : ℕ) → length xs ≤ i → slice_get xs i ≡ None
 slice_get_none [] i over = refl

@@ -1,4 +1,4 @@
--- The graph whose walks are the chains of lists: its nodes are the places of the made packages, and behind them a root.
+-- The graph whose walks are the chains of lists: its nodes are the places of the made packages, and after them a root.
 use Rattle.std.specs.Prelude.{◌≡◌, ℕ, ◌+◌, ◌<◌, ◌↔◌, false, List, [], ◌∷◌, ◌++◌, length, flat_map, position, Option, None, Some, slice_get, slice_set, option_to_list, Contains, if◌then◌else◌}
 use Rattle.std.specs.Option.{option_map_or}
 use Rattle.cycle_walks.specs.Graph.{Rows, row}

@@ -23,7 +23,7 @@ pub data HasList (vars : Table) (owner variable : List ℕ) (becomes : List (Lis
   value : (bytes : List ℕ) → IsValue (found vars) depth_limit (outside []) (reference variable) bytes → HasList vars owner variable becomes (Ok (becomes (words bytes)))
   fails : (fault : ExpandFault) → IsFault (found vars) depth_limit (outside []) (reference variable) fault → HasList vars owner variable becomes (Err (Expand owner variable fault))
 
--- a word behind others, unless it is one of them
+-- a word after others, unless it is one of them
 abbrev pub put_word : List (List ℕ) → List ℕ → List (List ℕ)
 put_word words word = if list_any (is_text word) words then words else words ++ word ∷ []
 

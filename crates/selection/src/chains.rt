@@ -1,6 +1,6 @@
 //! The selected packages: those to which a walk leads in the graph of the packages and the host packages that they list.
 //!
-//! The nodes are the places of the packages, and behind them a root that names the packages that are asked for.
+//! The nodes are the places of the packages, and after them a root that names the packages that are asked for.
 ghost use Rattle.std.specs.Prelude.{List, ℕ, ◌≡◌, ◌≢◌, ◌+◌, ◌<◌, ◌^◌, ◌++◌, [], Some, IfOk, OnOk, length, map, option_to_list, slice_get};
 ghost use Rattle.std.specs.List.Sorted.{IsStrictlyIncreasing};
 ghost use Rattle.cycle_walks.specs.Graph.{row};
@@ -45,7 +45,7 @@ fn picked(alloc: Global, all: &[Listed], places: &Numbers) -> Result<Vec<Listed>
     Ok(chosen)
 }
 
-/// Puts the package at a place behind others, where there is one.
+/// Puts the package at a place after others, where there is one.
 fn put_picked(chosen: &mut Vec<Listed>, all: &[Listed], place: u32) -> Result<(), Memory>
     ensures { OnOk result (chosen.new.items ≡ chosen.old.items ++ option_to_list (slice_get all.now place)) }
 {
@@ -75,7 +75,7 @@ fn selected_places(
     reached(alloc, &graph, root)
 }
 
-/// The root, behind all packages. More packages than can be numbered in 32 bits are want of memory.
+/// The root, after all packages. More packages than can be numbered in 32 bits are answered as out of memory.
 fn root_of(packages: &[Made]) -> Result<u32, Memory>
     ensures root { IfOk result (λ root. root ≡ length packages.now) }
     ensures few { IfOk result (λ root. root + 1 < 2 ^ 32) }

@@ -9,7 +9,7 @@
 //! that has no value; a selected package that lists what no recipe makes; one that lists a target package that isn't selected; and
 //! more than 256 packages.
 //!
-//! The time is proportional to the folders, the packages and the values of their lists, but for look-ups by name, each of which is
+//! The time is proportional to the folders, the packages and the values of their lists, except for look-ups by name, each of which is
 //! logarithmic in the number of packages.
 #![tactic(auto)]
 

@@ -13,7 +13,7 @@ use recipe_set::Made;
 use std::alloc::Global;
 use std::marker::Model;
 
-/// The names that packages list, one after another, each behind the name of its package.
+/// The names that packages list, one after another, each after the name of its package.
 #[derive(Drop)]
 pub(crate) struct Listings<'a> {
     items: Vec<(&'a Bytes, &'a Bytes)>,
@@ -82,7 +82,7 @@ impl<'a> Listings<'a> {
     }
 }
 
-/// The first name that is listed while no recipe makes such a package, behind the name of the package that lists it.
+/// The first name that is listed while no recipe makes such a package, after the name of the package that lists it.
 pub(crate) fn first_unknown<'a>(
     made: &[Made],
     listings: &[(&'a Bytes, &'a Bytes)],

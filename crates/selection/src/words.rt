@@ -57,7 +57,7 @@ fn in_order(alloc: Global, set: IndexSet<Vec<u8>>) -> Result<Names, Memory>
     Ok(Names { items: names })
 }
 
-/// The words with `host-` before each that lacks it, but for those that a host package of this name doesn't take over.
+/// The words with `host-` before each that lacks it, except for those that a host package of this name doesn't take over.
 pub(crate) fn taken_over(alloc: Global, own: &[u8], words: &Names) -> Result<Names, Memory>
     ensures { IfOk result (λ names. names ≡ taken_over own.now words.now) }
 {

@@ -150,7 +150,7 @@ root-changed change old new is there =
     let done = after-changed change old new is in
     subst (λ (state : State). HasRoot state.0.names) done.2 (root-after change old done.0 there)
 
--- an answer behind two tests passed both
+-- an answer after two tests passed both
 pub guarded : {W S F E : Type 0} (put : S → W) (lift : F → E) (first second : E) (new : W) (may is : Bool) (outcome : Result S F)
     → cond {A = Result W E} (not may) (Err first) (cond (not is) (Err second) (both_mapped put lift outcome)) ≡ Ok new
     → (state : S) × (outcome ≡ Ok state) × (put state ≡ new)

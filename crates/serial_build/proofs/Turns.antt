@@ -1,4 +1,4 @@
--- What each task keeps, run behind those that it needs, holds of the serial build.
+-- What each task keeps, run after those that it needs, holds of the serial build.
 use Rattle.std.proofs.Common.{ℕ, ◌≡◌, ◌<◌, ◌⊎◌, Bool, true, false, cond, ◌||◌, List, [], ◌∷◌, ◌++◌, length, take, slice_index, nat_eq, Contains, refl, sym, ap, subst, ◌∙◌, inl, inr, append_assoc, append-nil, length-append, arith, eqb-true}
 use Rattle.std.proofs.lemmas.Bool.{or_parts}
 use Rattle.std.proofs.lemmas.List.Folds.{list_any-append}
@@ -46,7 +46,7 @@ module _ (needs : Needs) (order : List ℕ) (is : IsOrder needs order) where
   shorter : (past rest : List ℕ) (task : ℕ) → order ≡ past ++ task ∷ rest → length past < length order
   shorter past rest task same = let long = ap length same ∙ length-append past (task ∷ rest) in omega arith
 
-  -- each task of an order is ready behind those before it
+  -- each task of an order is ready after those before it
   pub ready-at : (past rest : List ℕ) (task : ℕ) → order ≡ past ++ task ∷ rest → IsReady needs past task
   ready-at past rest task same =
       subst (λ front. IsReady needs front task) (ap (take (length past)) same ∙ take-append_seam past (task ∷ rest))

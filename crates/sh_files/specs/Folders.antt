@@ -27,7 +27,7 @@ abbrev pub is_empty : Names → Bool
 is_empty [] = true
 is_empty (name ∷ names) = false
 
--- a folder is left as it is; a missing one is made, but not behind a link
+-- a folder is left as it is; a missing one is made, but not after a link
 abbrev pub folder_at : ℕ → Spot → Option Kind → Bool → Program (Unit {0})
 folder_at mode place (Some (Dir other)) dangling = Done tt
 folder_at mode place (Some kind) dangling = Refuse (for_change NotDir)

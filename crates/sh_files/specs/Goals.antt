@@ -45,7 +45,7 @@ abbrev pub base_for : Goal → List ℕ → Result (List ℕ) Reason
 base_for (Into folder) word = base_of word
 base_for (Onto place) word = Ok []
 
--- what a name is for its goal: in a folder it can be one of a path, but for its length
+-- what a name is for its goal: in a folder it can be one of a path, except for its length
 abbrev pub IsBase : Goal → List ℕ → Type 0
 IsBase (Into folder) base = finding.IsStep base
 IsBase (Onto place) base = Unit {0}

@@ -15,7 +15,7 @@ is_octal_digit byte = nat_le 48 byte && nat_le byte 55
 abbrev pub is_octal : List ℕ → Bool
 is_octal word = nat_le 1 (length word) && nat_le (length word) 4 && list_all is_octal_digit word
 
--- the number that octal digits write, behind those that were read
+-- the number that octal digits write, after those that were read
 abbrev pub octal_from : ℕ → List ℕ → ℕ
 octal_from value [] = value
 octal_from value (digit ∷ digits) = octal_from (value * 8 + (digit - 48)) digits

@@ -15,7 +15,7 @@ use std::alloc::Global;
 use tree_ops::{ChangeFault, TreeOps};
 use tree_worlds::{CommandError, Reason, Step, World, error_of};
 
-/// Changes the mode of each operand behind the first, which says how.
+/// Changes the mode of each operand after the first, which says how.
 pub(crate) fn chmod<T: TreeOps>(
     alloc: Global,
     world: &mut World<T>,

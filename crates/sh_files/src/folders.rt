@@ -190,7 +190,7 @@ fn ensure_folders<T: TreeOps>(
     Ok(())
 }
 
-/// Puts a slash and a name behind a walk.
+/// Puts a slash and a name after a walk.
 fn put_step(walk: &mut Vec<u8>, name: &[u8]) -> Result<(), Memory>
     ensures { OnOk result (walk.new.items ≡ walk.old.items ++ 47 ∷ name.now) }
 {

@@ -49,7 +49,7 @@ site-sound tree sealed world (in_tree Target) found held is = subst IsTree (sym 
 site-sound tree sealed world (in_readable task) found held is = readable-sound tree sealed world.shown task found held.shown (sym is)
 site-sound tree sealed world in_input found held is = absurd cc
 
--- the tree behind a reference
+-- the tree after a reference
 pub behind_ref : {T : Type 0} (tree : T → Tree) (found : Option (Bor T)) → option_map (λ t. tree t.now) found ≡ option_map tree (option_copied found)
 behind_ref tree None = refl
 behind_ref tree (Some t) = refl
@@ -134,7 +134,7 @@ mode-elsewhere world path (in_tree area) elsewhere = refl
 mode-elsewhere world path (in_readable task) elsewhere = refl
 mode-elsewhere world path in_input elsewhere = absurd (elsewhere refl)
 
--- the text behind a reference, else the empty one
+-- the text after a reference, else the empty one
 pub text-found : (path : Names) (outer : Option Tree) (tree : Tree) (text : Option (Bor (List ℕ))) (empty result : Bor (List ℕ)) → Some tree ≡ outer → option_copied text ≡ trees.text_at tree path → empty.now ≡ [] → result ≡ unwrap_or text empty → text_in path outer ≡ result.now
 text-found path outer tree text empty result some is none gives =
     sym (ap (text_in path) some) ∙ ap (λ o. unwrap_or o []) (sym is) ∙ by text ∙ ap (λ (r : Bor (List ℕ)). r.now) (sym gives)

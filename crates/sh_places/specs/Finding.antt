@@ -43,7 +43,7 @@ found world files word follow = operand_of world files word >>= spot_of world fo
 abbrev pub place_below : Spot → List ℕ → Result Spot Reason
 place_below folder name = if is_name_too_long folder.path name then Err (for_change TooLong) else Ok (spot folder.site (folder.path ++ name ∷ []))
 
--- one byte or more, all of which a name may have, but neither `.` nor `..`: a name, but for its length
+-- one byte or more, all of which a name may have, but neither `.` nor `..`: a name, except for its length
 pub record IsStep (name : List ℕ) : Type 0 where
   pub filled : 1 ≤ length name
   pub printable : All (λ byte. IsTrue (is_name_byte byte)) name

@@ -187,7 +187,7 @@ pub fn entry_of(alloc: Global, folder: &Spot, name: &[u8]) -> Result<Spot, Memor
     }
 }
 
-/// The walk from the root to a path: its names, each behind a slash.
+/// The walk from the root to a path: its names, each after a slash.
 pub fn rooted_walk(alloc: Global, path: &Path) -> Result<Bytes, Memory>
     ensures walk { IfOk result (λ walk. walk ≡ rooted_text path.now) }
     ensures bytes { IfOk result IsWalk }

@@ -13,7 +13,7 @@ use Rattle.sh_text.proofs.Formats.{read_shorter, format-empty, format-none, form
 
 -- 1. What is read is written so.
 
--- if what stands behind a part is a format, so is the text that begins with the part
+-- if what stands after a part is a format, so is the text that begins with the part
 Written : List ℕ → Format → Cut → Type 0
 Written text more None = Unit {0}
 Written text more (Some (part, rest)) = IsFormat rest more → IsFormat text (part ∷ more)

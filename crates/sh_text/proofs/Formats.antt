@@ -7,7 +7,7 @@ use Rattle.sh_text.specs.declared.format.Part.{Part}
 use Rattle.sh_text.specs.declared.format.Part.TheVariants.{Byte, Word}
 use Rattle.sh_text.specs.Formats.{Format, Cut, is_octal, with_digit, octal_part, escape_of, byte_before, behind_backslash, behind_percent, first_part, before, parts_within, format_of, used, behind_word, has_word, is_over, again_within, again}
 
--- 1. What stands behind the first part is shorter.
+-- 1. What stands after the first part is shorter.
 
 IsShort : ℕ → Cut → Type 0
 IsShort most None = Unit {0}

@@ -12,7 +12,7 @@ use Rattle.sh_text.specs.Sed.{edited_file, edited_files}
 next_word : (words : Names) (i : ℕ) (item given : List ℕ) → i < length words → item ≡ get_or words i item → given ≡ item → drop i words ≡ given ∷ drop (suc i) words
 next_word words i item given within is same = drop-cons words i item within ∙ ap (λ (w : List ℕ). w ∷ drop (suc i) words) (sym is ∙ sym same)
 
--- the text of a file goes behind the output, and then the others
+-- the text of a file goes after the output, and then the others
 pub edited_next : (files : FileMap) (script : Script) (output text : List ℕ) (words : Names) (i : ℕ) (item given : List ℕ) (world : WorldData) (whole : Run (List ℕ)) → i < length words → item ≡ get_or words i item → given ≡ item
     → run (edited_files files script output (drop i words)) world ≡ whole → run (edited_file files script given) world ≡ Ok (text, world) → run (edited_files files script (output ++ text) (drop (i + 1) words)) world ≡ whole
 edited_next files script output text words i item given world whole within is same left done =

@@ -7,12 +7,12 @@ use Rattle.sh_text.specs.declared.script.Script.{Script}
 
 -- 1. Lines.
 
--- the pattern stands where a rest of a line begins, with its anchors met: `^` asks that the line begins there, `$` that it ends behind it
+-- the pattern stands where a rest of a line begins, with its anchors met: `^` asks that the line begins there, `$` that it ends after it
 abbrev pub stands : Pattern → Bool → List ℕ → Bool
 stands pattern beginning rest =
     starts_with nat_eq rest pattern.bytes && (beginning || not pattern.begins) && (length rest == length pattern.bytes || not pattern.ends)
 
--- behind the first place where the pattern stands another one counts only with `g`; and an empty pattern stands at one place alone
+-- after the first place where the pattern stands another one counts only with `g`; and an empty pattern stands at one place alone
 abbrev pub goes_on : Script → Bool
 goes_on script = script.each && is_filled script.pattern.bytes
 
@@ -32,7 +32,7 @@ edited script line = edited_from script true 0 line
 
 -- 2. Texts.
 
--- what stands behind the last newline is a line only if it isn't empty
+-- what stands after the last newline is a line only if it isn't empty
 abbrev pub edited_last : Script → List ℕ → List ℕ
 edited_last script [] = []
 edited_last script (byte ∷ line) = edited script (byte ∷ line)

@@ -11,14 +11,14 @@ Format = List Part
 
 -- 1. The parts of a text.
 
--- the part that a text begins with, and what stands behind it; or it begins with none
+-- the part that a text begins with, and what stands after it; or it begins with none
 abbrev pub Cut : Type 0
 Cut = Option (Part × List ℕ)
 
 abbrev pub is_octal : ℕ → Bool
 is_octal byte = nat_le 48 byte && nat_le byte 55
 
--- a value with one more digit, if the text behind it begins with one
+-- a value with one more digit, if the text after it begins with one
 abbrev pub with_digit : ℕ × List ℕ → ℕ × List ℕ
 with_digit (value, []) = (value, [])
 with_digit (value, byte ∷ rest) = if is_octal byte then (value * 8 + (byte - 48), rest) else (value, byte ∷ rest)
@@ -27,7 +27,7 @@ with_digit (value, byte ∷ rest) = if is_octal byte then (value * 8 + (byte - 4
 abbrev pub octal_part : ℕ × List ℕ → Cut
 octal_part (value, rest) = if nat_le value 255 then Some (Byte value, rest) else None
 
--- the byte that a letter stands for behind a backslash: n t \ " a b f r v
+-- the byte that a letter stands for after a backslash: n t \ " a b f r v
 abbrev pub escape_of : ℕ → Option ℕ
 escape_of letter =
     if letter == 110 then Some 10 else
@@ -43,18 +43,18 @@ escape_of letter =
 abbrev pub byte_before : List ℕ → Option ℕ → Cut
 byte_before rest byte = option_map (λ b. (Byte b, rest)) byte
 
--- behind a backslash: one to three octal digits, or a letter
+-- after a backslash: one to three octal digits, or a letter
 abbrev pub behind_backslash : List ℕ → Cut
 behind_backslash [] = None
 behind_backslash (letter ∷ rest) =
     if is_octal letter then octal_part (with_digit (with_digit (letter - 48, rest))) else byte_before rest (escape_of letter)
 
--- behind a `%`: another one, or an `s` for the next word
+-- after a `%`: another one, or an `s` for the next word
 abbrev pub behind_percent : List ℕ → Cut
 behind_percent [] = None
 behind_percent (letter ∷ rest) = if letter == 37 then Some (Byte 37, rest) else if letter == 115 then Some (Word, rest) else None
 
--- a byte stands for itself, but for a backslash and `%`
+-- a byte stands for itself, except for a backslash and `%`
 abbrev pub first_part : ℕ → List ℕ → Cut
 first_part byte rest = if byte == 92 then behind_backslash rest else if byte == 37 then behind_percent rest else Some (Byte byte, rest)
 

@@ -39,7 +39,7 @@ is_plain_text text = list_all (λ byte. not (byte == 92 || byte == 37)) text
 
 -- 2. Scripts.
 
--- bytes as they are written, one behind another
+-- bytes as they are written, one after another
 abbrev pub written : Spelling → List ℕ
 written [] = []
 written (Plain byte ∷ more) = byte ∷ written more

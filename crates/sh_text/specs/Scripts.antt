@@ -14,7 +14,7 @@ use Rattle.sh_text.specs.declared.script.Script.{Script}
 abbrev pub Spelling : Type 0
 Spelling = List Spelled
 
--- 1. The bytes of a text, each by itself or behind a backslash; none if the last backslash has nothing behind it.
+-- 1. The bytes of a text, each by itself or after a backslash; none if the last backslash has nothing after it.
 
 abbrev pub put_before : Spelled → Option Spelling → Option Spelling
 put_before first more = option_map (λ bytes. first ∷ bytes) more
@@ -103,7 +103,7 @@ each_of [] = Some false
 each_of (flag ∷ []) = if is_plain 103 flag then Some true else None
 each_of (flag ∷ other ∷ more) = None
 
--- what stands before the first delimiter that stands by itself, and what behind it
+-- what stands before the first delimiter that stands by itself, and what after it
 abbrev pub cut : ℕ → Spelling → Option (Spelling × Spelling)
 cut delimiter bytes = option_map (λ place. (take place bytes, drop (place + 1) bytes)) (position (is_plain delimiter) bytes)
 
@@ -111,12 +111,12 @@ abbrev pub script_with : Option Pattern → Option (List ℕ) → Option Bool �
 script_with (Some pattern) (Some replacement) (Some each) = Some (record { pattern = pattern; replacement = replacement; each = each })
 script_with pattern replacement each = None
 
--- behind a pattern
+-- after a pattern
 abbrev pub script_behind : ℕ → Spelling → Option (Spelling × Spelling) → Option Script
 script_behind delimiter pattern None = None
 script_behind delimiter pattern (Some (replacement, flags)) = script_with (pattern_of delimiter pattern) (bytes_by (byte_in Right delimiter) replacement) (each_of flags)
 
--- behind the first delimiter
+-- after the first delimiter
 abbrev pub script_by : ℕ → Option (Spelling × Spelling) → Option Script
 script_by delimiter None = None
 script_by delimiter (Some (pattern, rest)) = script_behind delimiter pattern (cut delimiter rest)

@@ -85,7 +85,7 @@ edited_at script bytes (Some (File label)) = Done (edited_text script bytes)
 abbrev pub edited_file : FileMap → Script → List ℕ → Program (List ℕ)
 edited_file files script word = find files word true >>= λ place. Look >>= λ world. edited_at script (bytes_at world files place) (kind_at world files place)
 
--- the edited texts of files, joined behind an output
+-- the edited texts of files, joined after an output
 abbrev pub edited_files : FileMap → Script → List ℕ → Names → Program (List ℕ)
 edited_files files script output [] = Done output
 edited_files files script output (word ∷ words) = edited_file files script word >>= λ text. edited_files files script (output ++ text) words

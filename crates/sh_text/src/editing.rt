@@ -12,7 +12,7 @@ use std::alloc::{AllocError, Global};
 impl Script {
     /// A text with each of its lines edited.
     ///
-    /// A line is what stands before a newline, and what stands behind the last one unless it is empty.
+    /// A line is what stands before a newline, and what stands after the last one unless it is empty.
     pub(crate) fn edited(&self, alloc: Global, text: &[u8]) -> Result<Bytes, Memory>
         ensures { IfOk result (λ new. new ≡ editing.edited_text self.now text.now) }
     {
@@ -36,7 +36,7 @@ impl Script {
         self.put_last(last, out)
     }
 
-    /// Puts what stands behind the last newline, edited if it is a line.
+    /// Puts what stands after the last newline, edited if it is a line.
     fn put_last(&self, line: &[u8], out: &mut Vec<u8>) -> Result<(), AllocError>
         ensures { OnOk result (out.new.items ≡ out.old.items ++ editing.edited_last self.now line.now) }
     {
@@ -62,7 +62,7 @@ impl Script {
         out.extend_from_slice(rest)
     }
 
-    /// Puts what stands before a place, and the replacement. What stands behind the pattern there is answered.
+    /// Puts what stands before a place, and the replacement. What stands after the pattern there is answered.
     fn put_first<'a>(
         &self,
         place: usize,

@@ -88,7 +88,7 @@ impl Format {
     }
 }
 
-/// Puts out the first word, if there is one. The words behind it are answered.
+/// Puts out the first word, if there is one. The words after it are answered.
 fn put_word<'a>(words: &'a [Bytes], out: &mut Vec<u8>) -> Result<&'a [Bytes], AllocError>
     ensures text { OnOk result (out.new.items ≡ out.old.items ++ formats.next_word words.now) }
     ensures left { IfOk result (λ left. left.now ≡ formats.behind_word words.now) }
@@ -100,7 +100,7 @@ fn put_word<'a>(words: &'a [Bytes], out: &mut Vec<u8>) -> Result<&'a [Bytes], Al
     Ok(left)
 }
 
-/// The part that a text of a byte and a rest begins with, and what stands behind it.
+/// The part that a text of a byte and a rest begins with, and what stands after it.
 fn first_part(byte: u8, rest: &[u8]) -> Option<(Part, &[u8])>
     ensures { shown_cut result ≡ formats.first_part byte rest.now }
 {
@@ -159,7 +159,7 @@ fn is_octal(byte: u8) -> bool
     b'0' <= byte && byte <= b'7'
 }
 
-/// The byte that a letter stands for behind a backslash.
+/// The byte that a letter stands for after a backslash.
 fn escape_of(letter: u8) -> Option<u8>
     ensures { result ≡ formats.escape_of letter }
 {

@@ -20,7 +20,7 @@ pub fn plain_formats_are_their_text()
     ensures { (text : List ℕ) (words : Names) → is_plain_text text ≡ true → printed (codes "--" ∷ text ∷ words) ≡ Ok text }
 {}
 
-/// The format `%s` puts out all words, one behind another.
+/// The format `%s` puts out all words, one after another.
 pub fn words_are_used_in_order()
     ensures { (words : Names) → printed (codes "%s" ∷ words) ≡ Ok (concat words) }
 {}
@@ -41,7 +41,7 @@ pub fn first_place_is_replaced()
         → edited script line ≡ take place line ++ (script.replacement ++ drop (length script.pattern.bytes) (drop place line)) }
 {}
 
-/// With `g` what stands behind the first place is edited in the same way: from the left, without overlap, as long as the pattern stands.
+/// With `g` what stands after the first place is edited in the same way: from the left, without overlap, as long as the pattern stands.
 pub fn each_place_is_replaced()
     ensures each { (script : Script) (beginning : Bool) (rest : List ℕ) (place : ℕ) → goes_on script ≡ true → StandsFirst script.pattern beginning place rest
         → edited_from script beginning 0 rest ≡ take place rest ++ (script.replacement ++ edited_from script false 0 (drop (length script.pattern.bytes) (drop place rest))) }

@@ -24,7 +24,7 @@ pub(crate) fn printf(alloc: Global, words: &[Bytes]) -> Result<Bytes, CommandErr
     Ok(put_out(alloc, &format, words)?)
 }
 
-/// The words behind a first word `--`.
+/// The words after a first word `--`.
 fn without_end(words: &[Bytes]) -> &[Bytes]
     ensures { result.now ≡ printing.without_end words.now }
 {

@@ -46,7 +46,7 @@ impl Script {
         }
     }
 
-    /// The script that a text behind the first delimiter is.
+    /// The script that a text after the first delimiter is.
     fn between(alloc: Global, delimiter: u8, text: &[u8]) -> Result<Option<Script>, Memory>
         ensures { IfOk result (λ script. script ≡ scripts.script_in delimiter (scripts.spelling_of text.now)) }
     {
@@ -109,7 +109,7 @@ impl Pattern {
     }
 }
 
-/// Whether a field begins with `^`, and what stands behind it.
+/// Whether a field begins with `^`, and what stands after it.
 fn behind_caret(field: &[Spelled]) -> (bool, &[Spelled])
     ensures caret { result.0 ≡ scripts.begins_with 94 field.now }
     ensures behind { result.1.now ≡ scripts.behind_caret field.now }

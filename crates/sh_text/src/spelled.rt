@@ -10,7 +10,7 @@ use std::alloc::Global;
 pub enum Spelled {
     /// By itself.
     Plain(u8),
-    /// Behind a backslash.
+    /// After a backslash.
     Escaped(u8),
 }
 
@@ -92,7 +92,7 @@ pub(crate) fn bytes_of(
     Ok(Some(Bytes { items }))
 }
 
-/// The bytes of a text as they are written; none if the last backslash has nothing behind it.
+/// The bytes of a text as they are written; none if the last backslash has nothing after it.
 pub(crate) fn spelling_of(alloc: Global, text: &[u8]) -> Result<Option<Vec<Spelled>>, Memory>
     ensures { IfOk result (λ found. option_map (λ bytes. bytes.items) found ≡ scripts.spelling_of text.now) }
 {
@@ -113,7 +113,7 @@ pub(crate) fn spelling_of(alloc: Global, text: &[u8]) -> Result<Option<Vec<Spell
     Ok(Some(bytes))
 }
 
-/// What stands before the first delimiter that stands by itself, and what behind it.
+/// What stands before the first delimiter that stands by itself, and what after it.
 pub(crate) fn cut(delimiter: u8, bytes: &[Spelled]) -> Option<(&[Spelled], &[Spelled])>
     ensures { option_map (λ c. (c.0.now, c.1.now)) result ≡ scripts.cut delimiter bytes.now }
 {

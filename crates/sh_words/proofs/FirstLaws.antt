@@ -305,7 +305,7 @@ first_fault text byte where' is = by (first_stop (length text - length is.rest) 
     by (inl m) = inl (misfit text is.words is.into is.rest is.front byte where' m)
     by (inr e) = inr (early text is.words is.into is.rest is.front byte where' e)
 
--- a byte that is named is the first with which no line goes on, or a line ends too early behind it
+-- a byte that is named is the first with which no line goes on, or a line ends too early after it
 pub unsupported_first : (text : List ℕ) (byte place : ℕ) → line_of text ≡ Err (Unsupported byte place) → IsMisfit text byte place ⊎ EndsEarly text byte place
 unsupported_first text byte place e = first_fault text byte place ((text_fault text (Unsupported byte place)).1 e)
 

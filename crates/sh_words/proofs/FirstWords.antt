@@ -42,7 +42,7 @@ close_unclosed written (IsUnclosed.backslash w t is) = record {
       (close_double (w ++ 92 ∷ 97 ∷ []) (t ++ 92 ∷ 97 ∷ []) (quoted_append w t (92 ∷ 97 ∷ []) (92 ∷ 97 ∷ []) is (IsQuoted.backslash 97 [] [] IsQuoted.nothing)));
 }
 
--- a byte at fault among a piece's, whatever stands behind it
+-- a byte at fault among a piece's, whatever stands after it
 pub record InPiece (place : ℕ) (rest : List ℕ) (byte where' : ℕ) : Type 0 where
   pub head : List ℕ
   pub back : List ℕ

@@ -40,7 +40,7 @@ word_again written word text other is alike = record {
 pub blank_no_operator : (byte : ℕ) → is_blank byte ≡ true → (byte == 62) ≡ false
 blank_no_operator byte is = ne_eqb byte 62 (λ same. false≢true (ap is_blank (sym same) ∙ is))
 
--- no operator stands behind blanks where none stands without them
+-- no operator stands after blanks where none stands without them
 pub blanks_no_operator : (blanks rest : List ℕ) → IsTrue (are_blanks blanks) → begins_operator rest ≡ false → begins_operator (blanks ++ rest) ≡ false
 blanks_no_operator [] rest are isnt = isnt
 blanks_no_operator (byte ∷ blanks) rest are isnt = blank_no_operator byte (and_parts (is_blank byte) (are_blanks blanks) are).0

@@ -50,7 +50,7 @@ blanks_run (byte ∷ blanks) rest place are begins =
     let e : place + 1 + length blanks ≡ place + length (byte ∷ blanks) = omega arith in
     rw p.0 (blanks_run blanks rest (place + 1) p.1 begins ∙ ap (λ q. left q rest) e)
 
--- what is read behind a `>`
+-- what is read after a `>`
 record EndsOperator (place : ℕ) (text : List ℕ) (found : Bool × Left) : Type 0 where
   is : IsOperator found.0 (62 ∷ text) found.1.text
   at : found.1.place ≡ place + size found.0
@@ -262,7 +262,7 @@ no_blank [] isnt = refl
 no_blank (byte ∷ text) isnt = (or_parts (is_blank byte) (byte == 62) isnt).0
 
 module _ (words : Names) (append : Bool) (text blanks rest : List ℕ) (place : ℕ) (is : IsOperator append text (blanks ++ rest)) (are : IsTrue (are_blanks blanks)) (begins : begins_blank rest ≡ false) where
-  -- an operator and blanks behind it are read
+  -- an operator and blanks after it are read
   item_reads_operator : item_in (record { words = words; into = None }) place text ≡ target (record { words = words; into = None }) place append (left (place + size append + length blanks) rest)
   item_reads_operator =
       let o = writes_operator append text (blanks ++ rest) is in

@@ -16,7 +16,7 @@ same_ok word other place elsewhere rest e f = rw (e, f) refl
 
 -- 1. `'`.
 
--- what is read behind a `'`
+-- what is read after a `'`
 pub record EndsSingle (word : List ℕ) (place : ℕ) (text after : List ℕ) (behind : Left) : Type 0 where
   pub quoted : List ℕ
   pub free : IsTrue (has_no_quote quoted)
@@ -143,7 +143,7 @@ double_backslash byte text word place (Err Memory) s = s
 not_taken : (byte : ℕ) → (byte == 34) ≡ false → (byte == 92) ≡ false → is_bare byte ≡ false → is_taken byte ≡ false
 not_taken byte quote slash bare = rw (quote, slash) bare
 
--- a byte of a text in `"`, by what the text is behind it and, for a backslash, behind the next byte
+-- a byte of a text in `"`, by what the text is after it and, for a backslash, after the next byte
 double_byte : (byte : ℕ) (text word : List ℕ) (place : ℕ) → SoundDouble word place (92 ∷ text) (double true word (place + 1) text) →
     SoundDouble (word ++ byte ∷ []) (place + 1) text (double false (word ++ byte ∷ []) (place + 1) text) → SoundDouble word place (byte ∷ text) (double false word place (byte ∷ text))
 double_byte byte text word place slashed more =

@@ -90,7 +90,7 @@ pieces_run written pieces rest word place (IsPieces.joined w p b x is more) =
     ∙ (pieces_run b x rest (word ++ p) (place + length w) more
     ∙ (ap (λ v. repeated ends_word piece v (left (place + length w + length b) rest)) (append_assoc word p x) ∙ ap (λ q. repeated ends_word piece (word ++ (p ++ x)) (left q rest)) e)))
 
--- 2. Operators behind digits.
+-- 2. Operators after digits.
 
 pub record BehindDigits (place : ℕ) (text : List ℕ) (where' : ℕ) : Type 0 where
   pub digits : List ℕ
@@ -143,7 +143,7 @@ operator_plain byte place text isnt more = by (is_digit byte) refl
     by true digit = rw (isnt, digit) (more digit)
     by false other = rw (isnt, other) refl
 
--- no operator stands behind digits alone where a word is written before something else
+-- no operator stands after digits alone where a word is written before something else
 no_operator : (written word behind : List ℕ) (place : ℕ) → IsPieces written word → (list_all is_digit written && begins_operator behind) ≡ false → begins_digit behind ≡ false →
     operator_behind_digits place (written ++ behind) ≡ None
 no_operator written word behind place IsPieces.nothing number digit = operator_none behind place number digit

@@ -11,11 +11,11 @@ is_unsupported byte = list_any (λ other. byte == other) (codes "$`|&;<()*?[")
 abbrev pub is_taken : ℕ → Bool
 is_taken byte = list_any (λ other. byte == other) (codes "\"\\$`")
 
--- what a backslash in `"` and the byte behind it stand for: the byte where it is taken, else both
+-- what a backslash in `"` and the byte after it stand for: the byte where it is taken, else both
 abbrev pub behind_backslash : ℕ → List ℕ
 behind_backslash byte = if is_taken byte then byte ∷ [] else 92 ∷ byte ∷ []
 
--- the bytes that stand in `"` behind a backslash alone
+-- the bytes that stand in `"` after a backslash alone
 abbrev pub is_bare : ℕ → Bool
 is_bare byte = list_any (λ other. byte == other) (codes "$`")
 

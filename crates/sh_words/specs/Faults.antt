@@ -9,7 +9,7 @@ use Rattle.sh_words.specs.declared.line.Redirect.{Redirect}
 use Rattle.sh_words.specs.Bytes.{are_blanks, is_bare, is_over, is_unsupported}
 use Rattle.sh_words.specs.Grammar.{IsQuoted, IsPieces, IsOperator, IsFront, has_no_quote, may_begin}
 
--- what stands behind a `"` that nothing closes: perhaps a backslash at the end
+-- what stands after a `"` that nothing closes: perhaps a backslash at the end
 pub data IsUnclosed : List ℕ → Type 0 where
   whole : (written text : List ℕ) → IsQuoted written text → IsUnclosed written
   backslash : (written text : List ℕ) → IsQuoted written text → IsUnclosed (written ++ 92 ∷ [])
@@ -34,7 +34,7 @@ pub data IsBroken (place : ℕ) : List ℕ → WordFault → Type 0 where
   -- but digits alone right before an operator
   number : (digit : ℕ) (digits rest : List ℕ) → IsTrue (list_all is_digit (digit ∷ digits)) →
       IsBroken place ((digit ∷ digits) ++ 62 ∷ rest) (Unsupported 62 (place + length (digit ∷ digits)))
-  -- but pieces, and no piece behind them
+  -- but pieces, and no piece after them
   barred : (written word rest : List ℕ) (fault : WordFault) → IsPieces written word → IsTrue (may_begin (written ++ rest)) →
       IsBarrier (place + length written) rest fault → IsBroken place (written ++ rest) fault
 
@@ -48,17 +48,17 @@ pub data IsStop (place : ℕ) : Option Redirect → List ℕ → WordFault → T
   word : (into : Option Redirect) (text : List ℕ) (fault : WordFault) → IsBroken place text fault → IsStop place into text fault
   -- since a second operator stands there
   second : (into : Redirect) (rest : List ℕ) → IsStop place (Some into) (62 ∷ rest) (Unsupported 62 place)
-  -- since an operator stands there, and behind it the line is over
+  -- since an operator stands there, and after it the line is over
   no_target : (append : Bool) (text blanks rest : List ℕ) → IsOperator append text (blanks ++ rest) → IsTrue (are_blanks blanks) →
       IsTrue (is_over rest) → IsStop place None text (Unsupported 62 place)
-  -- since an operator stands there, and behind it another one
+  -- since an operator stands there, and after it another one
   operator : (append : Bool) (text blanks rest : List ℕ) → IsOperator append text (blanks ++ 62 ∷ rest) → IsTrue (are_blanks blanks) →
       IsStop place None text (Unsupported 62 (place + size append + length blanks))
-  -- since an operator stands there, and behind it no word
+  -- since an operator stands there, and after it no word
   target : (append : Bool) (text blanks rest : List ℕ) (fault : WordFault) → IsOperator append text (blanks ++ rest) → IsTrue (are_blanks blanks) →
       IsBroken (place + size append + length blanks) rest fault → IsStop place None text fault
 
--- a text has this fault: behind what it begins with no line goes on
+-- a text has this fault: after what it begins with no line goes on
 pub record IsFault (text : List ℕ) (fault : WordFault) : Type 0 where
   pub words : Names
   pub into : Option Redirect

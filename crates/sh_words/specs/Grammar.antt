@@ -1,4 +1,4 @@
--- How a line is written: words and an operator with its target, with blanks between them, and perhaps a comment behind.
+-- How a line is written: words and an operator with its target, with blanks between them, and perhaps a comment after.
 use Rattle.std.specs.Prelude.{◌≡◌, ℕ, Bool, true, false, not, ◌||◌, ◌&&◌, ◌==◌, IsTrue, List, [], ◌∷◌, ◌++◌, Option, Some, None}
 use Rattle.std.specs.List.{list_all}
 use Rattle.br_path.specs.Path.{Names}
@@ -9,7 +9,7 @@ use Rattle.sh_words.specs.Bytes.{are_blanks, begins_operator, behind_backslash, 
 
 -- 1. Pieces: how each is written, and the bytes that it stands for.
 
--- what stands between two `"`: bytes that no backslash takes, and backslashes each with the byte behind it
+-- what stands between two `"`: bytes that no backslash takes, and backslashes each with the byte after it
 pub data IsQuoted : List ℕ → List ℕ → Type 0 where
   nothing : IsQuoted [] []
   plain : (byte : ℕ) (written text : List ℕ) → is_taken byte ≡ false → IsQuoted written text → IsQuoted (byte ∷ written) (byte ∷ text)
@@ -23,7 +23,7 @@ has_no_quote text = list_all (λ byte. not (byte == 39)) text
 abbrev pub is_plain : ℕ → Bool
 is_plain byte = not (is_blank byte || byte == 62 || byte == 39 || byte == 34 || byte == 92 || is_unsupported byte)
 
--- a byte as it is, a byte behind a backslash, a text in `'` or a text in `"`
+-- a byte as it is, a byte after a backslash, a text in `'` or a text in `"`
 pub data IsPiece : List ℕ → List ℕ → Type 0 where
   plain : (byte : ℕ) → IsTrue (is_plain byte) → IsPiece (byte ∷ []) (byte ∷ [])
   escaped : (byte : ℕ) → IsPiece (92 ∷ byte ∷ []) (byte ∷ [])
@@ -35,7 +35,7 @@ pub data IsPieces : List ℕ → List ℕ → Type 0 where
   nothing : IsPieces [] []
   joined : (written piece behind word : List ℕ) → IsPiece written piece → IsPieces behind word → IsPieces (written ++ behind) (piece ++ word)
 
--- 2. Words and operators, each with what stands behind it.
+-- 2. Words and operators, each with what stands after it.
 
 -- a word doesn't begin with a `#` or a `~` as it is
 abbrev pub may_begin : List ℕ → Bool
@@ -49,7 +49,7 @@ pub record IsWord (written word behind : List ℕ) : Type 0 where
   pub ends : IsTrue (ends_word behind)
   pub no_number : (list_all is_digit written && begins_operator behind) ≡ false
 
--- `>`, or `>>`, which appends: a text that begins with one, and what stands behind it
+-- `>`, or `>>`, which appends: a text that begins with one, and what stands after it
 pub data IsOperator : Bool → List ℕ → List ℕ → Type 0 where
   one : (behind : List ℕ) → begins_operator behind ≡ false → IsOperator false (62 ∷ behind) behind
   two : (behind : List ℕ) → IsOperator true (62 ∷ 62 ∷ behind) behind
@@ -67,7 +67,7 @@ pub data IsFront : Option Redirect → List ℕ → Names → Option Redirect �
       IsOperator append text (blanks ++ (written ++ behind)) → IsTrue (are_blanks blanks) → IsWord written word behind →
       IsFront (Some (record { append = append; word = word })) behind words after rest → IsFront None text words after rest
 
--- a text is a line: behind its words and its target nothing is left, or a comment
+-- a text is a line: after its words and its target nothing is left, or a comment
 pub record IsLine (text : List ℕ) (line : Line) : Type 0 where
   pub rest : List ℕ
   pub front : IsFront None text line.words line.into rest

@@ -26,7 +26,7 @@ module _ {A : Type 0} (is_done : List ℕ → Bool) (step : A → Left → Readi
   unfoldable pub repeated : A → Left → Reading A
   repeated value rest = at_most (length rest.text) value rest
 
--- what is left behind the blanks that a text begins with
+-- what is left after the blanks that a text begins with
 abbrev pub behind_blanks : ℕ → List ℕ → Left
 behind_blanks place [] = left place []
 behind_blanks place (byte ∷ text) = if is_blank byte then behind_blanks (place + 1) text else left place (byte ∷ text)

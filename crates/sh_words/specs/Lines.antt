@@ -9,7 +9,7 @@ use Rattle.sh_words.specs.Left.{Left, left, Reading, repeated, behind_blanks}
 use Rattle.sh_words.specs.Words.{word_of}
 use Rattle.sh_words.specs.Bytes.{is_over}
 
--- a word behind the others
+-- a word after the others
 abbrev pub with_word : Line → List ℕ → Line
 with_word line word = record { words = line.words ++ word ∷ []; into = line.into }
 
@@ -17,7 +17,7 @@ with_word line word = record { words = line.words ++ word ∷ []; into = line.in
 abbrev pub with_target : Line → Bool → List ℕ → Line
 with_target line append word = record { words = line.words; into = Some (record { append = append; word = word }) }
 
--- behind a `>`: whether another one follows, which belongs to it, and what is left then
+-- after a `>`: whether another one follows, which belongs to it, and what is left then
 abbrev pub second : ℕ → List ℕ → Bool × Left
 second place [] = (false, left place [])
 second place (byte ∷ text) = if byte == 62 then (true, left (place + 1) text) else (false, left place (byte ∷ text))

@@ -15,7 +15,7 @@ piece_in word place (byte ∷ text) = piece_at word place byte text
 abbrev pub piece : List ℕ → Left → Reading (List ℕ)
 piece word rest = piece_in word rest.place rest.text
 
--- the place of an operator that a text begins with, or that stands behind digits alone
+-- the place of an operator that a text begins with, or that stands after digits alone
 abbrev pub operator_behind_digits : ℕ → List ℕ → Option ℕ
 operator_behind_digits place [] = None
 operator_behind_digits place (byte ∷ text) =

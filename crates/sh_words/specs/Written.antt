@@ -20,7 +20,7 @@ abbrev pub written_target : Option Redirect → List ℕ
 written_target None = []
 written_target (Some into) = (if into.append then codes ">>" else codes ">") ++ quoted into.word
 
--- a line, with a gap behind each word
+-- a line, with a gap after each word
 abbrev pub written : List ℕ → Line → List ℕ
 written gap line = flat_map (λ word. quoted word ++ gap) line.words ++ written_target line.into
 

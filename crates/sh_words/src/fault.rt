@@ -13,10 +13,10 @@ pub enum WordFault {
     /// A byte isn't supported where it stands. Its place counts the text's bytes from 0.
     ///
     /// Outside quotes these are `$`, a backquote, `|`, `&`, `;`, `<`, `(`, `)`, `*`, `?` and `[`, a `~` that begins a word, a
-    /// backslash at the end, and a `>` that is the second, has digits alone right before it or has no word behind it; in
+    /// backslash at the end, and a `>` that is the second, has digits alone right before it or has no word after it; in
     /// `"` a `$` or a backquote without a backslash. An operator is named by its first `>`.
     Unsupported(u8, u32),
-    /// Want of memory.
+    /// Out of memory.
     Memory,
 }
 

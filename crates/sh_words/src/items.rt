@@ -80,7 +80,7 @@ impl Reader<'_> {
         Ok(())
     }
 
-    /// Takes a `>` right behind the first.
+    /// Takes a `>` right after the first.
     fn take_second(&mut self) -> bool
         ensures { second (shown self.old).place (shown self.old).text ≡ (result, shown self.new) }
     {

@@ -17,19 +17,19 @@ pub fn texts_are_lines()
     ensures fault { (text : List ℕ) (fault : WordFault) → IsFault text fault ↔ (line_of text ≡ Err fault) }
 {}
 
-/// Every line is read back as it is written: its words in quotes, with any blanks between them, and its target behind.
+/// Every line is read back as it is written: its words in quotes, with any blanks between them, and its target after.
 pub fn written_is_read()
     ensures { (gap : List ℕ) (line : Line) → IsTrue (is_gap gap) → line_of (written gap line) ≡ Ok line }
 {}
 
-/// The byte that a fault names is the first with which no line goes on, or one that asks for more than is behind it: a
+/// The byte that a fault names is the first with which no line goes on, or one that asks for more than is after it: a
 /// backslash at the end, or an operator without a word. Where a quote doesn't close, some line begins with the whole text.
 pub fn faults_are_first()
     ensures unsupported { (text : List ℕ) (byte place : ℕ) → line_of text ≡ Err (Unsupported byte place) → IsMisfit text byte place ⊎ EndsEarly text byte place }
     ensures quote { (text : List ℕ) → line_of text ≡ Err OpenQuote → Begins text }
 {}
 
-/// Blanks before a line and behind it make no difference, and a text of blanks and plain bytes has the words between its
+/// Blanks before a line and after it make no difference, and a text of blanks and plain bytes has the words between its
 /// blanks.
 pub fn blanks_divide()
     ensures before { (blanks text : List ℕ) (line : Line) → IsTrue (are_blanks blanks) → line_of text ≡ Ok line → line_of (blanks ++ text) ≡ Ok line }

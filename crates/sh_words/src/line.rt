@@ -13,7 +13,7 @@ pub struct Line {
 /// Where the output of a command goes.
 #[derive(Drop)]
 pub struct Redirect {
-    /// Whether it goes behind what is there: `>>`, and not `>`.
+    /// Whether it goes after what is there: `>>`, and not `>`.
     pub append: bool,
     /// The word of the target, without its quotes.
     pub word: Bytes,

@@ -11,7 +11,7 @@ use crate::fault::WordFault;
 use crate::reader::Reader;
 
 impl Reader<'_> {
-    /// Takes the piece that begins here, and puts what it stands for behind a word.
+    /// Takes the piece that begins here, and puts what it stands for after a word.
     pub(crate) fn piece(&mut self, word: &mut Vec<u8>) -> Result<(), WordFault>
         ensures { Leaves no_memory (piece word.old.items (shown self.old)) result (word.new.items, shown self.new) }
     {
@@ -53,7 +53,7 @@ impl Reader<'_> {
         Err(WordFault::OpenQuote)
     }
 
-    /// Takes the byte behind a backslash in `"`.
+    /// Takes the byte after a backslash in `"`.
     fn behind_backslash(&mut self, word: &mut Vec<u8>) -> Result<(), WordFault>
         ensures on { GoesOn (double true word.old.items (shown self.old).place (shown self.old).text) result (double false word.new.items (shown self.new).place (shown self.new).text) }
         ensures shorter { OnOk result (length (shown self.new).text < length (shown self.old).text) }
@@ -67,7 +67,7 @@ impl Reader<'_> {
         Ok(word.push(byte)?)
     }
 
-    /// Takes the byte behind a backslash that stands at a place outside quotes.
+    /// Takes the byte after a backslash that stands at a place outside quotes.
     fn escaped(&mut self, place: u32, word: &mut Vec<u8>) -> Result<(), WordFault>
         requires { (shown self.old).place ≡ place + 1 }
         ensures { Leaves no_memory (escaped word.old.items place (shown self.old).text) result (word.new.items, shown self.new) }

@@ -38,7 +38,7 @@ impl Reader<'_> {
         Some(WordFault::Unsupported(b'>', place))
     }
 
-    /// The place of an operator here, or behind digits alone.
+    /// The place of an operator here, or after digits alone.
     fn operator_behind_digits(&self) -> Option<u32>
         ensures { result ≡ operator_behind_digits (shown self.now).place (shown self.now).text }
     {

@@ -90,7 +90,7 @@ past-earlier from next path before is = ap (λ r. is_lt r && true) (le_lt from n
 upto_trans : (a b c : Names) → IsLeBy path_cmp a b → IsLeBy path_cmp b c → IsLeBy path_cmp a c
 upto_trans = upto_of path_total
 
--- behind what stands at or below one child of a path
+-- after what stands at or below one child of a path
 pub behind-itself : (at path : Names) → is_gt (path_cmp at path) ≡ false → IsBehind at path path
 behind-itself at path past = record {
   upto = ap is_gt (tied_itself path_total path);
@@ -228,7 +228,7 @@ module _ {X : Type 0} (at : Names) where
         let sorted = subst (IsStrictlySortedBy path_cmp) (sym (keys_of-past from entries) ∙ ap keys_of is) (IsStrictlySortedBy-filter path_cmp (is_past from) (keys_of entries) rises) in
         sorted_head path_cmp e.0 (keys_of left) sorted
 
-    -- what is left behind an entry, and behind a path that follows it
+    -- what is left after an entry, and after a path that follows it
     next-left : (next : Names) → IsBehind at e.0 next → past next entries ≡ past next left
     next-left next behind =
         past-past from next (upto_trans from e.0 next (ap is_gt after) behind.upto) entries ∙ ap (past next) is

@@ -35,7 +35,7 @@ top-name (x ∷ xs) (suc count) legal fits =
       | Greater ↦ λ is. let above : 126 < x = ranked x 126 Greater (sym is) in absurd (omega arith)
     ] refl
 
--- paths behind one head are ordered as what is behind it
+-- paths after one head are ordered as what is after it
 cmp-behind : (head a b : Names) → path_cmp (head ++ a) (head ++ b) ≡ path_cmp a b
 cmp-behind [] a b = refl
 cmp-behind (x ∷ head) a b = ap (λ r. ordering_then r (path_cmp (head ++ a) (head ++ b))) (tied_itself nat_list_cmp_total x) ∙ cmp-behind head a b
@@ -51,7 +51,7 @@ name_fits [] name names path = omega (arith, path.short, rooted-path_text name n
 name_fits (x ∷ last) name names path =
     omega (arith, path.short, rooted-path_text x (last ++ name ∷ names), rooted-append (x ∷ last) (name ∷ names), length-append name (rooted_text names))
 
--- the names behind a head of a path
+-- the names after a head of a path
 legal_name : (last : Names) (name : List ℕ) (names : Names) → All IsName (last ++ name ∷ names) → IsName name
 legal_name [] name names legal = All-head IsName name names legal
 legal_name (x ∷ last) name names legal = legal_name last name names (All-tail IsName x (last ++ name ∷ names) legal)

@@ -83,7 +83,7 @@ impl TreeOps for MapTree {
         resolve(alloc, self, walk, follow)
     }
 
-    /// The time is logarithmic in the numbers of names and labels, but for the bytes that are copied.
+    /// The time is logarithmic in the numbers of names and labels, except for the bytes that are copied.
     fn make_file(
         &mut self,
         alloc: Global,
@@ -99,7 +99,7 @@ impl TreeOps for MapTree {
         result
     }
 
-    /// The time is logarithmic in the numbers of names and labels, but for the bytes that are copied. If the file's
+    /// The time is logarithmic in the numbers of names and labels, except for the bytes that are copied. If the file's
     /// label is another task's, the time is linear in the number of all names.
     fn write(
         &mut self,
@@ -114,7 +114,7 @@ impl TreeOps for MapTree {
         result
     }
 
-    /// The time is logarithmic in the numbers of names and labels, but for the bytes that are copied. If the file's
+    /// The time is logarithmic in the numbers of names and labels, except for the bytes that are copied. If the file's
     /// label is another task's, the time is linear in the number of all names.
     fn append(
         &mut self,
@@ -129,7 +129,7 @@ impl TreeOps for MapTree {
         result
     }
 
-    /// The time is logarithmic in the numbers of names and labels, but for the bytes that are copied. If the file's
+    /// The time is logarithmic in the numbers of names and labels, except for the bytes that are copied. If the file's
     /// label is another task's, the time is linear in the number of all names.
     fn set_mode(
         &mut self,

@@ -100,7 +100,7 @@ pub(crate) fn last_below(alloc: Global, head: &Path) -> Result<Path, Memory>
     Ok(last)
 }
 
-/// Where to go on past a path that stands below another, for the names directly below that one: behind all that stands
+/// Where to go on past a path that stands below another, for the names directly below that one: after all that stands
 /// at or below the same one of them.
 pub(crate) fn behind(alloc: Global, at: &Path, path: &Path) -> Result<Path, Memory>
     requires { is_below at.now path.now ≡ true }

@@ -461,7 +461,7 @@ impl MapTree {
         self.populate_lacked(from, paths.as_slice(), labels.as_slice(), pen)
     }
 
-    /// Refuses a move, but for the lengths of paths and the limits.
+    /// Refuses a move, except for the lengths of paths and the limits.
     fn check_move(&self, alloc: Global, old: &Path, at: &Path) -> Result<(), ChangeFault>
         ensures { IsChecked (move_fault (shown self.now) old.now at.now None) result }
     {
@@ -711,7 +711,7 @@ impl MapTree {
     }
 }
 
-/// Bytes, and others behind them.
+/// Bytes, and others after them.
 fn joined(alloc: Global, front: &[u8], back: &[u8]) -> Result<Bytes, Memory>
     ensures { IfOk result (λ b. b ≡ front.now ++ back.now) }
 {

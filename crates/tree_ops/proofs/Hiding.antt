@@ -25,7 +25,7 @@ map_range-in {X = X} f k a (suc n) from upto = by (nat_lt a k) refl (map_range-i
 abbrev hides : Tree → Names → Bool
 hides tree folder = is_leaf (node_at tree folder)
 
--- a path is hidden just where it goes on behind one at which a file or link stands
+-- a path is hidden just where it goes on after one at which a file or link stands
 pub hidden-below : (tree : Tree) (path : Names) → is_hidden tree path ≡ true ↔ ((head : Names) × (name : List ℕ) × (rest : Names) × (path ≡ head ++ name ∷ rest) × (is_leaf (node_at tree head) ≡ true))
 hidden-below tree path = (
   λ is.

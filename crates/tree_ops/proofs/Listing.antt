@@ -75,7 +75,7 @@ filter_map-in {A = A} {B = B} f b (x ∷ xs) there = by (f x) refl (filter_map-i
 abbrev child_of : Names → Names × Node → Option (List ℕ)
 child_of at entry = child_name at entry.0
 
--- a name is among those below a path just where something stands at the path with this name behind it
+-- a name is among those below a path just where something stands at the path with this name after it
 pub exactly-below : (tree : Tree) (at : Names) (name : List ℕ) → Contains (names_below tree at) name ↔ IsSome (node_at tree (at ++ name ∷ []))
 exactly-below tree at name = (
   λ found.

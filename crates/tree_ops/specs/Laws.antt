@@ -130,7 +130,7 @@ OtherFilesStay = (change : Change) (old new : State) (label : Label) (contents :
 
 -- 7. The names below a path.
 
--- a name is among them just where something stands at the path with this name behind it
+-- a name is among them just where something stands at the path with this name after it
 abbrev pub NamesAreExact : Type 0
 NamesAreExact = (tree : Tree) (at : Names) (name : List ℕ) → Contains (names_below tree at) name ↔ IsSome (node_at tree (at ++ name ∷ []))
 

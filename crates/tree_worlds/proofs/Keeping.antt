@@ -18,7 +18,7 @@ use Rattle.tree_worlds.specs.declared.reason.CommandError.TheVariants.{Failed, M
 use Rattle.tree_worlds.specs.Kept.{KeepsUnlessMemory, IsKept, Keeps, StaysOrGoes, left_by}
 use Rattle.tree_worlds.proofs.Programs.{kept_by_run}
 
--- an answer behind two tests passed both
+-- an answer after two tests passed both
 guarded : {W S F E : Type 0} (put : S → W) (lift : F → E) (first second : E) (new : W) (may is : Bool) (outcome : Result S F)
     → cond {A = Result W E} (not may) (Err first) (cond (not is) (Err second) (both_mapped put lift outcome)) ≡ Ok new
     → (may ≡ true) × (is ≡ true) × (state : S) × (outcome ≡ Ok state) × (put state ≡ new)

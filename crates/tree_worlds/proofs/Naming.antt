@@ -48,7 +48,7 @@ folder-any files at b says = same_tests _ _
     (λ is. let found = any-get path_total path_same (λ file. is_below at file.0) files is in let rest = rest-of_below at found.0 found.3 in
     says.1 (rest.0, (rest.1, subst (λ (k : Names). IsSome (fin.get files k)) rest.2 (subst IsSome (sym found.2) refl))))
 
--- names that are no path have no file, and none goes on behind them
+-- names that are no path have no file, and none goes on after them
 pub no_path-none : (folder : Names) (files : FileMap) (names : Names) → IsInput files → (IsPath names → ⊥) → is_there folder files names ≡ false
 no_path-none folder files names input none = both _ _ _ no_file no_folder
   where

@@ -38,7 +38,7 @@ pub record Keeps (old new : WorldData) : Type 0 where
   pub contents : (area : Area) (label : Label) → is_own old.pen label ≡ false → StaysOrGoes (tree_in old.trees area) (tree_in new.trees area) label
   pub limits : is_within_limits old.pen ≡ true → is_within_limits new.pen ≡ true
 
--- what a command keeps, at its end and at its fault; after want of memory nothing is said
+-- what a command keeps, at its end and at its fault; if it is out of memory, nothing is said
 abbrev pub KeepsUnlessMemory : {A : Type 0} → WorldData → Result A CommandError → WorldData → Type 0
 KeepsUnlessMemory old (Ok value) new = Keeps old new
 KeepsUnlessMemory old (Err Memory) new = Unit {0}

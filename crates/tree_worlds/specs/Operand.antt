@@ -36,7 +36,7 @@ unrooted text = drop (up_to (λ byte. not (byte == 47)) text) text
 abbrev pub first_of : List ℕ → List ℕ
 first_of text = take (up_to (λ byte. byte == 47) (unrooted text)) (unrooted text)
 
--- what stands behind it, with the slash between them
+-- what stands after it, with the slash between them
 abbrev pub behind : List ℕ → List ℕ
 behind text = drop (up_to (λ byte. byte == 47) (unrooted text)) (unrooted text)
 
@@ -106,7 +106,7 @@ is_inside folder names = is_below folder names || is_below board names
 abbrev pub is_file : FileMap → Names → Bool
 is_file files names = is_some (fin.get files names)
 
--- a file's path goes on behind this one
+-- a file's path goes on after this one
 abbrev pub is_folder : FileMap → Names → Bool
 is_folder files names = list_any (λ file. is_below names file.0) (fin.entries files)
 

@@ -35,7 +35,7 @@ run Look world = Ok (world, world)
 run (Act area change) world = run_act world (acted area change world)
 run (program >>= next) world = go_on (run program world) (λ value. run (next value))
 
--- what a call answers and leaves: the program's run; after want of memory nothing is said
+-- what a call answers and leaves: the program's run; if it is out of memory, nothing is said
 abbrev pub Ran : {A : Type 0} → Run A → Result A CommandError → WorldData → Type 0
 Ran outcome (Ok value) new = outcome ≡ Ok (value, new)
 Ran outcome (Err Memory) new = Unit {0}

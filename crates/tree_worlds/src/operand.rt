@@ -46,7 +46,7 @@ impl<T: TreeOps> World<T> {
     /// What a word names.
     ///
     /// An empty word, or one with a byte that isn't printable ASCII, is no operand. A word that begins with `/` names a place:
-    /// behind `/output/target`, `/output/staging`, `/output/host`, or `/output/build` and the task's own package, or, in a
+    /// after `/output/target`, `/output/staging`, `/output/host`, or `/output/build` and the task's own package, or, in a
     /// prep task, a patch dependency. Any other word names a file or folder of the input, in the package's folder or in
     /// `board`; `.` in it is dropped. What is elsewhere, or has `..`, is `Outside`; an input that isn't there is `Absent`.
     ///
@@ -157,7 +157,7 @@ fn begins_at_root(text: &[u8]) -> bool
     text.starts_with(b"/")
 }
 
-/// A text's first component, and what stands behind it.
+/// A text's first component, and what stands after it.
 fn cut(text: &[u8]) -> (&[u8], &[u8])
     ensures first { result.0.now ≡ first_of text.now }
     ensures behind { result.1.now ≡ behind text.now }
