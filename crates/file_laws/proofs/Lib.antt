@@ -9,3 +9,12 @@ mod Walked
 mod Fronts
 mod Found
 mod Edited
+mod Grows
+mod Entries
+mod Seen
+mod Course
+mod Steps
+mod Leaves
+mod Folders
+mod Copied
+mod Held

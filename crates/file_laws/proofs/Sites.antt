@@ -29,7 +29,7 @@ use Rattle.sh_files.specs.Linking.{crosses, within, place_within}
 use Rattle.file_laws.specs.Words.{GoesThrough, stands}
 use Rattle.file_laws.proofs.Through.{never}
 
-same-area : (area other : Area) → is_area area other ≡ true → area ≡ other
+pub same-area : (area other : Area) → is_area area other ≡ true → area ≡ other
 same-area Build Build is = refl
 same-area Build Host is = absurd (true≢false (sym is))
 same-area Build Staging is = absurd (true≢false (sym is))
@@ -47,7 +47,7 @@ same-area Target Host is = absurd (true≢false (sym is))
 same-area Target Staging is = absurd (true≢false (sym is))
 same-area Target Target is = refl
 
-area-itself : (area : Area) → is_area area area ≡ true
+pub area-itself : (area : Area) → is_area area area ≡ true
 area-itself Build = refl
 area-itself Host = refl
 area-itself Staging = refl
@@ -90,7 +90,7 @@ apart-paths source place area first second apart same =
     both a b first second = ap (λ a. a && b) first ∙ second
 
 -- a file as it stands in the tree
-file-node : (node : Option Node) (label : Label) → option_map kind_of (option_map trees.kind_of node) ≡ Some (File (Some label)) → node ≡ Some (nodes.File label)
+pub file-node : (node : Option Node) (label : Label) → option_map kind_of (option_map trees.kind_of node) ≡ Some (File (Some label)) → node ≡ Some (nodes.File label)
 file-node None label is = cc
 file-node (Some (nodes.Dir mode)) label is = cc
 file-node (Some (nodes.Link text)) label is = cc

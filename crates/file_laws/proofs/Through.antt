@@ -19,7 +19,7 @@ same_Ok x y is = cc
 pub never : {A : Type 0} (fault : Reason × WorldData) (value : A × WorldData) → ◌≡◌ {A = Run A} (Err fault) (Ok value) → ⊥
 never fault value is = cc
 
-go_on-through : {A B : Type 0} (outcome : Run B) (next : B → WorldData → Run A) (value : A) (new : WorldData) → go_on outcome next ≡ Ok (value, new)
+pub go_on-through : {A B : Type 0} (outcome : Run B) (next : B → WorldData → Run A) (value : A) (new : WorldData) → go_on outcome next ≡ Ok (value, new)
     → (first : B) × (mid : WorldData) × (outcome ≡ Ok (first, mid)) × (next first mid ≡ Ok (value, new))
 go_on-through (Ok (first, mid)) next value new is = (first, mid, refl, is)
 go_on-through (Err fault) next value new is = cc
@@ -47,7 +47,7 @@ pub choose-through : {A : Type 0} (test : Bool) (reason : Reason) (other : Progr
 choose-through true reason other old new goes = absurd (never (reason, old) (goes.0, new) goes.1)
 choose-through false reason other old new goes = (refl, goes)
 
-act-through : (area : Area) (change : Change) (old : WorldData) (outcome : Result WorldData Reason) (value : Unit {0}) (new : WorldData) → run_act old outcome ≡ Ok (value, new) → outcome ≡ Ok new
+pub act-through : (area : Area) (change : Change) (old : WorldData) (outcome : Result WorldData Reason) (value : Unit {0}) (new : WorldData) → run_act old outcome ≡ Ok (value, new) → outcome ≡ Ok new
 act-through area change old (Ok made) value new is = ap (λ (p : Unit {0} × WorldData). Ok p.1) (same_Ok (tt, made) (value, new) is)
 act-through area change old (Err reason) value new is = cc
 

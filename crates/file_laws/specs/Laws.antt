@@ -1,7 +1,8 @@
 -- Laws of the commands on files, and of sed.
+use Rattle.std.specs.FinMap as fin
 use Rattle.std.specs.Prelude.{◌≡◌, ℕ, Bool, true, false, List, [], ◌∷◌, ◌++◌, Option, Some, None, Ok}
 use Rattle.br_path.specs.Path.{Names, rooted_text}
-use Rattle.br_path.specs.Files.{FileMap}
+use Rattle.br_path.specs.Files.{FileMap, IsInput}
 use Rattle.br_path.specs.declared.area.Area.{Area}
 use Rattle.tree_ops.specs.declared.entry.Label.{Label}
 use Rattle.tree_ops.specs.Tree.{IsTree}
@@ -11,13 +12,13 @@ use Rattle.tree_worlds.specs.Kept.{left_by}
 use Rattle.tree_worlds.specs.declared.operand.Operand.TheVariants.{Place}
 use Rattle.tree_ops.specs.Walk.{components}
 use Rattle.sh_places.specs.declared.spot.Spot.{Spot}
-use Rattle.sh_places.specs.declared.kind.Kind.TheVariants.{File}
+use Rattle.sh_places.specs.declared.kind.Kind.TheVariants.{Dir, File}
 use Rattle.sh_places.specs.Looks.{kind_at, bytes_at, mode_at}
 use Rattle.sh_places.specs.Finding.{found}
 use Rattle.sh_files.specs.Goals.{place_for, goal_place}
 use Rattle.sh_files.specs.Linking.{link_from}
 use Rattle.sh_files.specs.Moving.{move_from}
-use Rattle.sh_files.specs.Copying.{copy_contents, made_mode}
+use Rattle.sh_files.specs.Copying.{copy_contents, copy_folder, copy_below, made_mode}
 use Rattle.sh_files.specs.Install.{install_from}
 use Rattle.sh_files.specs.Removing.{remove_tree}
 use Rattle.sh_files.specs.Touching.{touch}
@@ -26,7 +27,7 @@ use Rattle.sh_files.specs.ChangingModes.{chmod}
 use Rattle.sh_text.specs.declared.script.Script.{Script}
 use Rattle.sh_text.specs.Editing.{edited_text}
 use Rattle.sh_text.specs.Sed.{edit_file}
-use Rattle.file_laws.specs.Words.{GoesThrough, KeepsAll, KeepsNames, NamesAgain, MovesTo, MakesFileAt, RemovesAt, LeadsToFolder}
+use Rattle.file_laws.specs.Words.{GoesThrough, KeepsAll, KeepsNames, NamesAgain, MovesTo, MakesFileAt, RemovesAt, LeadsToFolder, IsReachedWorld, CopiesTo}
 
 -- 1. What commands keep, at their end and at their fault.
 
@@ -84,3 +85,9 @@ RmIsWhole = (files : FileMap) (place : Spot) (old new : WorldData) → ((area : 
 abbrev pub MkdirLeavesFolders : Type 0
 MkdirLeavesFolders = (files : FileMap) (area : Area) (mode : ℕ) (walk : List ℕ) (before : Names) (name : List ℕ) (after : Names) (old new : WorldData)
     → components walk ≡ before ++ name ∷ after → GoesThrough (make_path files mode (Place area walk)) old new → LeadsToFolder new area (rooted_text (before ++ name ∷ []))
+
+-- cp of a folder to a place where nothing is: at and below the place stands a copy of what stood at and below the source, and all else is as it was
+abbrev pub CpMakesTree : Type 0
+CpMakesTree = (files : FileMap) (manner : _) (source place : Spot) (mode : ℕ) (old new : WorldData)
+    → IsInput files → IsReachedWorld old → kind_at old files source ≡ Some (Dir mode) → kind_at old files place ≡ None
+    → GoesThrough (copy_folder (copy_below 1024 files manner) files manner fin.empty source mode place) old new → CopiesTo files manner source place old new

@@ -1,20 +1,28 @@
 -- What happens to the trees of a world, in words of single places.
-use Rattle.std.specs.Prelude.{◌≡◌, ◌≢◌, ℕ, true, false, List, Option, Some, None, is_some, Ok}
+use Rattle.std.specs.Prelude.{◌≡◌, ◌≢◌, ℕ, ◌<◌, ◌≤◌, true, false, List, ◌++◌, Option, Some, None, is_some, Ok}
 use Rattle.std.specs.FinMap as fin
 use Rattle.br_path.specs.Path.{Names}
+use Rattle.br_path.specs.Files.{FileMap}
 use Rattle.br_path.specs.declared.area.Area.{Area}
 use Rattle.tree_ops.specs.declared.entry.Label.{Label}
 use Rattle.tree_ops.specs.declared.entry.Contents.{Contents}
 use Rattle.tree_ops.specs.declared.entry.Node.{Node}
-use Rattle.tree_ops.specs.declared.entry.Node.TheVariants.{File}
-use Rattle.tree_ops.specs.Tree.{node_at, is_dir}
-use Rattle.tree_ops.specs.Change.{next_label, is_at_or_below}
+use Rattle.tree_ops.specs.declared.entry.Node.TheVariants.{Dir, Link, File}
+use Rattle.tree_ops.specs.Tree.{Tree, IsTree, node_at, is_dir}
+use Rattle.tree_ops.specs.Change.{next_label, is_own, is_at_or_below}
 use Rattle.tree_ops.specs.Walk.{resolved}
 use Rattle.tree_ops.specs.Laws.{IsMoved}
 use Rattle.tree_worlds.specs.World.{WorldData, tree_in}
 use Rattle.tree_worlds.specs.Program.{Program, run}
+use Rattle.sh_places.specs.declared.spot.Site.{Site}
 use Rattle.sh_places.specs.declared.spot.Site.TheVariants.{Tree as in_tree}
 use Rattle.sh_places.specs.declared.spot.Spot.{Spot}
+use Rattle.sh_places.specs.declared.kind.Kind.{Kind}
+use Rattle.sh_places.specs.declared.kind.Kind.TheVariants as kinds
+use Rattle.sh_places.specs.Looks.{tree_of, kind_at, bytes_at, mode_at, text_at}
+use Rattle.sh_places.specs.Finding.{spot}
+use Rattle.sh_files.specs.declared.copying.Manner.{Manner}
+use Rattle.sh_files.specs.Copying.{made_mode}
 
 -- a program goes through in a world, and leaves another
 abbrev pub GoesThrough : {A : Type 0} → Program A → WorldData → WorldData → Type 0
@@ -83,3 +91,44 @@ RemovesAt place old new = (area : Area) × (place.site ≡ in_tree area) × Remo
 -- a walk, followed, ends at a folder
 abbrev pub LeadsToFolder : WorldData → Area → List ℕ → Type 0
 LeadsToFolder world area walk = (path : Names) × (resolved (tree_in world.trees area) walk true ≡ Ok path) × (is_dir (stands world area path) ≡ true)
+
+-- what holds of each world that a task reaches: its trees are trees, those that it may read too, and of its own labels only those that it
+-- has drawn stand for something
+pub record IsReachedWorld (world : WorldData) : Type 0 where
+  pub trees : (site : Site) (tree : Tree) → tree_of world site ≡ Some tree → IsTree tree
+  pub drawn : (area : Area) (label : Label) (had : Contents) → contents_of world area label ≡ Some had → is_own world.pen label ≡ true → label.number < world.pen.next
+
+-- a label is one that the task drew on the way from one world to another
+pub record IsDrawn (label : Label) (old new : WorldData) : Type 0 where
+  pub task : label.task ≡ old.pen.task
+  pub after : old.pen.next ≤ label.number
+  pub before : label.number < new.pen.next
+
+-- a file of its own stands at a path, with this mode and these bytes
+pub record IsOwnFile (area : Area) (at : Names) (mode : ℕ) (bytes : List ℕ) (old new : WorldData) : Type 0 where
+  pub label : Label
+  pub drawn : IsDrawn label old new
+  pub stands_there : stands new area at ≡ Some (File label)
+  pub contents : contents_of new area label ≡ Some (record { mode = mode; bytes = bytes })
+
+-- what stands at a path of an area's tree is a copy of what stood at the source, by its kind: nothing of nothing, a folder of a folder,
+-- a link with the same text of a link, a file of its own with the same bytes of a file
+abbrev pub IsCopyOf : FileMap → Manner → Spot → Area → Names → WorldData → WorldData → Option Kind → Type 0
+IsCopyOf files manner source area at old new None = stands new area at ≡ None
+IsCopyOf files manner source area at old new (Some (kinds.Dir mode)) = stands new area at ≡ Some (Dir (made_mode manner mode))
+IsCopyOf files manner source area at old new (Some kinds.Link) = stands new area at ≡ Some (Link (text_at old source))
+IsCopyOf files manner source area at old new (Some (kinds.File label)) = IsOwnFile area at (made_mode manner (mode_at old source)) (bytes_at old files source) old new
+
+abbrev pub IsCopied : FileMap → Manner → Spot → Area → Names → WorldData → WorldData → Type 0
+IsCopied files manner source area at old new = IsCopyOf files manner source area at old new (kind_at old files source)
+
+-- what stood at or below a source is copied to a path and below it; all else stands as it was, and each label stands for what it stood for
+pub record Copies (files : FileMap) (manner : Manner) (source : Spot) (area : Area) (at : Names) (old new : WorldData) : Type 0 where
+  pub copied : (below : Names) → IsCopied files manner (spot source.site (source.path ++ below)) area (at ++ below) old new
+  pub others : (path : Names) → is_at_or_below at path ≡ false → stands new area path ≡ stands old area path
+  pub contents : (label : Label) (had : Contents) → contents_of old area label ≡ Some had → contents_of new area label ≡ Some had
+  pub areas : KeepsOthers area old new
+
+-- the same to a place, which is in one of the task's trees
+abbrev pub CopiesTo : FileMap → Manner → Spot → Spot → WorldData → WorldData → Type 0
+CopiesTo files manner source place old new = (area : Area) × (place.site ≡ in_tree area) × Copies files manner source area place.path old new

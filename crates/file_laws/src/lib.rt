@@ -8,6 +8,6 @@ mod ending;
 mod keeping;
 mod making;
 
-pub use ending::{mkdir_leaves_folders, rm_is_whole};
+pub use ending::{cp_makes_tree, held_worlds_are_reached, mkdir_leaves_folders, rm_is_whole};
 pub use keeping::{chmod_keeps_names, mkdir_keeps_all, touch_keeps_all};
 pub use making::{cp_makes_file, install_makes_file, ln_adds_name, mv_is_whole, sed_makes_file};
