@@ -15,7 +15,8 @@ pub fn images_are_read()
     ensures { (text : List ℕ) (root : Entries) → length (lines_of text) < 2 ^ 32 → (image_of text ≡ Ok root) ↔ (IsRoot root × (text ≡ image_text root)) }
 {}
 
-/// A law with nothing to run: each line has one spelling, of those that can stand where the reader stands.
+/// A law with nothing to run: each line has one spelling, of those that can stand where the reader stands. Its size, or its
+/// count of entries, is below 2^64.
 pub fn lines_are_spelled()
     ensures { (place : Place) (text : List ℕ) (line : Line) → IsNumbered line → (line_in place text ≡ Some line) ↔ (MayStand place line × IsLine line × (text ≡ line_text line)) }
 {}

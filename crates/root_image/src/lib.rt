@@ -18,6 +18,7 @@
 mod fault;
 mod image;
 mod laws;
+mod length;
 mod line;
 mod place;
 mod root;

@@ -5,15 +5,16 @@ ghost use Rattle.br_path.specs.Mode.{octal};
 ghost use Rattle.root_image.specs.Lines.{image_text, lines_text, entry_lines, pieces, rooted};
 ghost use Rattle.root_image.specs.Lines.{FileLine, BytesLine};
 
+use crate::length::text_len;
 use crate::root::{Root, RootEntry};
 use br_path::{Bytes, Memory, Path};
 use std::alloc::{AllocError, Global};
 
-/// The text of a root. The time is proportional to the text.
+/// The text of a root. The time is proportional to the text, which is reserved once.
 pub fn write(alloc: Global, root: &Root) -> Result<Bytes, Memory>
     ensures { IfOk result (λ text. text ≡ image_text root.now) }
 {
-    let mut text = Vec::new(alloc);
+    let mut text = Vec::with_capacity(alloc, text_len(root))?;
     text.extend_from_slice(b"rootfs 1\n")?;
     for (path, entry) in root.entries() {
         push_entry(alloc, &mut text, path, entry)?;
