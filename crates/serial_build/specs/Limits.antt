@@ -19,7 +19,7 @@ pub record IsCounted (world : WorldData) : Type 0 where
 abbrev pub KeepsCounts : WorldData → WorldData → Type 0
 KeepsCounts old new = IsCounted old → IsCounted new
 
--- in the four trees of a built task stand at most 16,384 names beside their roots, and the texts of their paths have 1,048,576 bytes
+-- in the four trees of a built task stand at most 16,384 names beside their roots, and the texts of their paths have at most 1,048,576 bytes
 abbrev pub IsWithinLimits : ShelfData → Type 0
 IsWithinLimits (Built trees written stamps) = (names_in trees ≤ 16384 + 4) × (texts_in trees ≤ 1048576)
 IsWithinLimits (Failed step line status reason stamps) = Unit {0}
