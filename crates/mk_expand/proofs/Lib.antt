@@ -22,3 +22,4 @@ pub mod NoMemory
 pub mod ByName
 pub mod Spelled
 pub mod References
+pub mod Looked

@@ -6,13 +6,13 @@ ghost use Rattle.mk_expand.specs.Words.{is_filled, words, row};
 ghost use Rattle.mk_expand.specs.Lists.{replaced, is_matched, exchanged, sorted_with, IsSortOf, argument, applied};
 ghost use Rattle.mk_expand.specs.Laws.{IsReplaced};
 ghost use Rattle.mk_expand.specs.Draft.{put, IsRun};
-ghost use Rattle.mk_expand.specs.Shown.{shown_spelling};
+ghost use Rattle.mk_expand.specs.Shown.{shown_spelling, is_matched_by};
 
 use crate::blanks::words;
 use crate::draft::Draft;
 use crate::fault::ExpandFault;
 use crate::function::Function;
-use crate::pattern::{Spelling, exchanged, is_matched};
+use crate::pattern::{Exchange, Patterns, Spelling};
 use br_path::{Bytes, Memory, Names};
 use memchr::memmem;
 use std::alloc::Global;
@@ -117,9 +117,10 @@ fn put_exchanged(
 ) -> Result<(), ExpandFault>
     ensures { IsRun (put (row (filter is_filled (map (exchanged pattern.now replacement.now) (map (λ word. word.now) words.now)))) out.old) result out.new }
 {
+    let exchange = Exchange::new(pattern, replacement);
     let mut gap: &[u8] = b"";
     for word in words {
-        let spelling = exchanged(pattern, replacement, word);
+        let spelling = exchange.of(word);
         if !spelling.is_empty() {
             put_spelling(gap, &spelling, out)?;
             gap = b" ";
@@ -136,39 +137,43 @@ fn put_spelling(gap: &[u8], spelling: &Spelling<'_>, out: &mut Draft) -> Result<
 }
 
 // The words of a text that fit a word of another.
-fn put_matched(
+fn put_matched<'a>(
     alloc: Global,
-    patterns: &[u8],
-    text: &[u8],
+    patterns: &'a [u8],
+    text: &'a [u8],
     out: &mut Draft,
 ) -> Result<(), ExpandFault>
     ensures { IsRun (put (row (filter (λ word. is_matched (words patterns.now) word) (words text.now))) out.old) result out.new }
 {
-    let patterns = words(alloc, patterns)?;
+    let patterns = Patterns::of(alloc, &words(alloc, patterns)?)?;
     put_fitting(&patterns, &words(alloc, text)?, out)
 }
 
 // The words of a text that fit no word of another.
-fn put_unmatched(
+fn put_unmatched<'a>(
     alloc: Global,
-    patterns: &[u8],
-    text: &[u8],
+    patterns: &'a [u8],
+    text: &'a [u8],
     out: &mut Draft,
 ) -> Result<(), ExpandFault>
     ensures { IsRun (put (row (filter (λ word. not (is_matched (words patterns.now) word)) (words text.now))) out.old) result out.new }
 {
-    let patterns = words(alloc, patterns)?;
+    let patterns = Patterns::of(alloc, &words(alloc, patterns)?)?;
     put_others(&patterns, &words(alloc, text)?, out)
 }
 
 // The words that fit one of the patterns.
 #[tactic(auto, using(crate::proofs::Rows::rows))]
-fn put_fitting(patterns: &[&[u8]], words: &[&[u8]], out: &mut Draft) -> Result<(), ExpandFault>
-    ensures { IsRun (put (row (filter (λ word. is_matched (map (λ word. word.now) patterns.now) word) (map (λ word. word.now) words.now))) out.old) result out.new }
+fn put_fitting<'a>(
+    patterns: &Patterns<'a>,
+    words: &[&'a [u8]],
+    out: &mut Draft,
+) -> Result<(), ExpandFault>
+    ensures { IsRun (put (row (filter (λ word. is_matched_by patterns.now word) (map (λ word. word.now) words.now))) out.old) result out.new }
 {
     let mut gap: &[u8] = b"";
     for word in words {
-        if is_matched(patterns, word) {
+        if patterns.fits(word) {
             put_two(gap, word, out)?;
             gap = b" ";
         }
@@ -178,12 +183,16 @@ fn put_fitting(patterns: &[&[u8]], words: &[&[u8]], out: &mut Draft) -> Result<(
 
 // The words that fit none of the patterns.
 #[tactic(auto, using(crate::proofs::Rows::rows))]
-fn put_others(patterns: &[&[u8]], words: &[&[u8]], out: &mut Draft) -> Result<(), ExpandFault>
-    ensures { IsRun (put (row (filter (λ word. not (is_matched (map (λ word. word.now) patterns.now) word)) (map (λ word. word.now) words.now))) out.old) result out.new }
+fn put_others<'a>(
+    patterns: &Patterns<'a>,
+    words: &[&'a [u8]],
+    out: &mut Draft,
+) -> Result<(), ExpandFault>
+    ensures { IsRun (put (row (filter (λ word. not (is_matched_by patterns.now word)) (map (λ word. word.now) words.now))) out.old) result out.new }
 {
     let mut gap: &[u8] = b"";
     for word in words {
-        if !is_matched(patterns, word) {
+        if !patterns.fits(word) {
             put_two(gap, word, out)?;
             gap = b" ";
         }
