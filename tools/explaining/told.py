@@ -40,7 +40,12 @@ def values(asked):
     lines = config_lines(asked.program) if asked.program else None
     lines = (text_at('.config') or '').split('\n') if lines is None else lines
     found = [line.split('=', 1) for line in lines if '=' in line and line[0] != '#']
-    return {name: text for name, text in found if text != 'n'}
+    return {name: preset(text) for name, text in found if text != 'n'}
+
+
+def preset(text):
+    """The text of a symbol in recipes: a string keeps its quotes, without the backslashes in it."""
+    return '"%s"' % re.sub(r'\\(.)', r'\1', text[1:-1]) if text.startswith('"') else text
 
 
 def config_lines(program):
@@ -301,7 +306,7 @@ def failed(names, asked):
     if line > len(commands):
         return ['line %d of the step %s is not found in package/%s' % (line, step, package)]
     command = commands[line - 1]
-    run = [] if command.text == command.piece.line.lstrip('@-') else ['it ran `%s`' % command.text]
+    run = [] if command.text == command.piece.line.lstrip('@-') else ['expanded: `%s`' % command.text]
     return ['line %d of the step %s, in %s:' % (line, step, command.variable), of_piece(command.piece)] + run
 
 
