@@ -29,7 +29,6 @@ use Rattle.sh_places.specs.Spot.{is_site}
 use Rattle.sh_places.specs.Looks.{kind_of, kind_at, kind_on}
 use Rattle.sh_places.specs.Finding.{spot}
 use Rattle.sh_places.specs.Parts.{attempt}
-use Rattle.sh_files.specs.declared.copying.Manner.{Manner}
 use Rattle.sh_files.specs.Copying.{CopiedTo, apart, followed, followed_from, made_mode, make_copy, copy_folder, copy_below}
 use Rattle.file_laws.specs.Words.{stands, IsReachedWorld, Copies}
 use Rattle.file_laws.specs.Laws.{CpMakesTree}
@@ -38,7 +37,7 @@ use Rattle.file_laws.proofs.Seen.{Sees, Outside, sees}
 use Rattle.file_laws.proofs.Sites.{area-itself}
 use Rattle.file_laws.proofs.Steps.{then-run, attempt-then, known-run}
 use Rattle.file_laws.proofs.Through.{act_in-through}
-use Rattle.file_laws.proofs.Course.{Course, Made, itself}
+use Rattle.file_laws.proofs.Course.{Course, Manner, Made, itself}
 use Rattle.file_laws.proofs.Folders.{folder-made, below-made}
 
 -- 1. Nothing stands at the place, nor below it.
@@ -118,7 +117,7 @@ module _ (files : FileMap) (manner : Manner) (input : IsInput files) where
 
   tree-copied : (site : Site) (root : Names) (area : Area) (to : Names) (mode : ℕ) (old new : WorldData) (more : CopiedTo) → IsReachedWorld old → is_site site (in_tree area) && is_at_or_below root to ≡ false
       → kind_at old files (spot site root) ≡ Some (Dir mode) → stands old area to ≡ None → run (copying (spot site root) mode (spot (in_tree area) to)) old ≡ Ok (more, new)
-      → Copies files manner (spot site root) area to old new
+      → Copies files (made_mode manner) (spot site root) area to old new
   tree-copied site root area to mode old new more reached test is none ran =
       let c : Course = record { files = files; manner = manner; site = site; root = root; area = area; to = to; old = old } in
       let seen : Sees files site root area to old = sees files root area to old input reached site (source-apart files site root area to mode old reached test is none) in

@@ -21,12 +21,18 @@ use Rattle.sh_places.specs.declared.spot.Site.TheVariants.{Tree as in_tree}
 use Rattle.sh_places.specs.declared.spot.Spot.{Spot}
 use Rattle.sh_places.specs.Looks.{kind_of, kind_at, bytes_at, mode_at}
 use Rattle.sh_places.specs.Finding.{spot}
-use Rattle.sh_files.specs.declared.copying.Manner.{Manner}
 use Rattle.sh_files.specs.Copying.{CopiedTo, made_mode}
 use Rattle.sh_files.specs.Goals.{is_dir}
 use Rattle.file_laws.specs.Words.{stands, IsCopyOf, IsOwnFile}
 use Rattle.file_laws.proofs.Grows.{Grows, Adds, grows-fewer, drawn-old, drawn-later}
 use Rattle.file_laws.proofs.Seen.{Sees, Outside}
+
+-- the type of how cp copies, which sh_files doesn't name to others: it is what `made_mode` takes
+abbrev domain : {A B : Type 0} → (A → B) → Type 0
+domain {A = A} f = A
+
+abbrev pub Manner : Type 0
+Manner = domain made_mode
 
 -- what a copy begins with: the source's site and path, the area and path that it goes to, and the world
 pub record Course : Type 0 where
@@ -78,7 +84,7 @@ module _ (c : Course) where
 
   -- what stands at one path is a copy of what stood at another, of some kind
   abbrev pub KindCopied : Names → Names → WorldData → Option Kind → Type 0
-  KindCopied from at now kind = IsCopyOf c.files c.manner (spot c.site from) c.area at c.old now kind
+  KindCopied from at now kind = IsCopyOf c.files (made_mode c.manner) (spot c.site from) c.area at c.old now kind
 
   abbrev pub CopiedAt : Names → Names → WorldData → Type 0
   CopiedAt from at now = KindCopied from at now (SourceAt from)

@@ -22,7 +22,6 @@ use Rattle.sh_places.specs.declared.spot.Spot.{Spot}
 use Rattle.sh_places.specs.Looks.{kind_at, names_at}
 use Rattle.sh_places.specs.Finding.{spot, place_below}
 use Rattle.sh_places.specs.Parts.{attempt}
-use Rattle.sh_files.specs.declared.copying.Manner.{Manner}
 use Rattle.sh_files.specs.Copying.{Below, CopiedTo, apart, copyable, followed, followed_from, made_mode, make_copy, copy_folder, copy_kind, copy_entry, each_copy, copy_below}
 use Rattle.sh_files.specs.Goals.{is_dir}
 use Rattle.file_laws.specs.Words.{stands}
@@ -31,7 +30,7 @@ use Rattle.file_laws.proofs.Entries.{IsOnce, entries-once}
 use Rattle.file_laws.proofs.Seen.{Sees, SeesAlike, Outside, seen-names}
 use Rattle.file_laws.proofs.Through.{same_Ok, act-through}
 use Rattle.file_laws.proofs.Steps.{then-run, attempt-then, known-run}
-use Rattle.file_laws.proofs.Course.{Course, Now, SourceAt, Bare, CopiedAt, Knows, Made, knows-kept, copy-kept, not-bare, none-copied, kind-copied, place-none, outside-deeper, itself, entry-below, longer}
+use Rattle.file_laws.proofs.Course.{Course, Manner, Now, SourceAt, Bare, CopiedAt, Knows, Made, knows-kept, copy-kept, not-bare, none-copied, kind-copied, place-none, outside-deeper, itself, entry-below, longer}
 use Rattle.file_laws.proofs.Leaves.{link-made, file-made}
 
 -- 1. Paths beside each other.

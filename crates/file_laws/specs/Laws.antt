@@ -90,4 +90,4 @@ MkdirLeavesFolders = (files : FileMap) (area : Area) (mode : ℕ) (walk : List �
 abbrev pub CpMakesTree : Type 0
 CpMakesTree = (files : FileMap) (manner : _) (source place : Spot) (mode : ℕ) (old new : WorldData)
     → IsInput files → IsReachedWorld old → kind_at old files source ≡ Some (Dir mode) → kind_at old files place ≡ None
-    → GoesThrough (copy_folder (copy_below 1024 files manner) files manner fin.empty source mode place) old new → CopiesTo files manner source place old new
+    → GoesThrough (copy_folder (copy_below 1024 files manner) files manner fin.empty source mode place) old new → CopiesTo files (made_mode manner) source place old new

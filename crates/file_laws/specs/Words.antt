@@ -21,8 +21,6 @@ use Rattle.sh_places.specs.declared.kind.Kind.{Kind}
 use Rattle.sh_places.specs.declared.kind.Kind.TheVariants as kinds
 use Rattle.sh_places.specs.Looks.{tree_of, kind_at, bytes_at, mode_at, text_at}
 use Rattle.sh_places.specs.Finding.{spot}
-use Rattle.sh_files.specs.declared.copying.Manner.{Manner}
-use Rattle.sh_files.specs.Copying.{made_mode}
 
 -- a program goes through in a world, and leaves another
 abbrev pub GoesThrough : {A : Type 0} → Program A → WorldData → WorldData → Type 0
@@ -112,23 +110,23 @@ pub record IsOwnFile (area : Area) (at : Names) (mode : ℕ) (bytes : List ℕ) 
   pub contents : contents_of new area label ≡ Some (record { mode = mode; bytes = bytes })
 
 -- what stands at a path of an area's tree is a copy of what stood at the source, by its kind: nothing of nothing, a folder of a folder,
--- a link with the same text of a link, a file of its own with the same bytes of a file
-abbrev pub IsCopyOf : FileMap → Manner → Spot → Area → Names → WorldData → WorldData → Option Kind → Type 0
-IsCopyOf files manner source area at old new None = stands new area at ≡ None
-IsCopyOf files manner source area at old new (Some (kinds.Dir mode)) = stands new area at ≡ Some (Dir (made_mode manner mode))
-IsCopyOf files manner source area at old new (Some kinds.Link) = stands new area at ≡ Some (Link (text_at old source))
-IsCopyOf files manner source area at old new (Some (kinds.File label)) = IsOwnFile area at (made_mode manner (mode_at old source)) (bytes_at old files source) old new
+-- a link with the same text of a link, a file of its own with the same bytes of a file; `made` gives the modes of copies
+abbrev pub IsCopyOf : FileMap → (ℕ → ℕ) → Spot → Area → Names → WorldData → WorldData → Option Kind → Type 0
+IsCopyOf files made source area at old new None = stands new area at ≡ None
+IsCopyOf files made source area at old new (Some (kinds.Dir mode)) = stands new area at ≡ Some (Dir (made mode))
+IsCopyOf files made source area at old new (Some kinds.Link) = stands new area at ≡ Some (Link (text_at old source))
+IsCopyOf files made source area at old new (Some (kinds.File label)) = IsOwnFile area at (made (mode_at old source)) (bytes_at old files source) old new
 
-abbrev pub IsCopied : FileMap → Manner → Spot → Area → Names → WorldData → WorldData → Type 0
-IsCopied files manner source area at old new = IsCopyOf files manner source area at old new (kind_at old files source)
+abbrev pub IsCopied : FileMap → (ℕ → ℕ) → Spot → Area → Names → WorldData → WorldData → Type 0
+IsCopied files made source area at old new = IsCopyOf files made source area at old new (kind_at old files source)
 
 -- what stood at or below a source is copied to a path and below it; all else stands as it was, and each label stands for what it stood for
-pub record Copies (files : FileMap) (manner : Manner) (source : Spot) (area : Area) (at : Names) (old new : WorldData) : Type 0 where
-  pub copied : (below : Names) → IsCopied files manner (spot source.site (source.path ++ below)) area (at ++ below) old new
+pub record Copies (files : FileMap) (made : ℕ → ℕ) (source : Spot) (area : Area) (at : Names) (old new : WorldData) : Type 0 where
+  pub copied : (below : Names) → IsCopied files made (spot source.site (source.path ++ below)) area (at ++ below) old new
   pub others : (path : Names) → is_at_or_below at path ≡ false → stands new area path ≡ stands old area path
   pub contents : (label : Label) (had : Contents) → contents_of old area label ≡ Some had → contents_of new area label ≡ Some had
   pub areas : KeepsOthers area old new
 
 -- the same to a place, which is in one of the task's trees
-abbrev pub CopiesTo : FileMap → Manner → Spot → Spot → WorldData → WorldData → Type 0
-CopiesTo files manner source place old new = (area : Area) × (place.site ≡ in_tree area) × Copies files manner source area place.path old new
+abbrev pub CopiesTo : FileMap → (ℕ → ℕ) → Spot → Spot → WorldData → WorldData → Type 0
+CopiesTo files made source place old new = (area : Area) × (place.site ≡ in_tree area) × Copies files made source area place.path old new
